@@ -1,0 +1,10 @@
+// Serial lines, read exactly: a line of text into the request that it asks for, or into the fault that says
+// what is wrong with it and where. What a line means is defined in specs/.
+
+mod fields;
+mod marks;
+mod part;
+
+pub use fields::field;
+pub use marks::cut;
+pub use part::Field;

@@ -1,0 +1,6 @@
+// What a service is asked: an operation with its two numbers. Every layer above speaks in these types.
+
+mod request;
+
+pub use request::Operation;
+pub use request::Request;
