@@ -1,2 +1,3 @@
 pub mod PartLaws
 pub mod FieldLaws
+pub mod DigitLaws

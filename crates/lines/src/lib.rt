@@ -1,10 +1,13 @@
 // Serial lines, read exactly: a line of text into the request that it asks for, or into the fault that says
 // what is wrong with it and where. What a line means is defined in specs/.
 
+mod fault;
 mod fields;
 mod marks;
+mod numbers;
 mod part;
 
+pub use fault::NumberFault;
 pub use fields::field;
 pub use marks::cut;
 pub use part::Field;

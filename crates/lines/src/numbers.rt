@@ -1,0 +1,73 @@
+// Channels and values: the numbers in a line's fields.
+ghost use mathlib.Core.Path.{_≡_};
+ghost use Prim.Native.Nat.{_+_, _-_, _*_, _^_, _<_, _≤_};
+ghost use lib.ListN.{length, take};
+ghost use Rattle.std.specs.Results.{Cases};
+ghost use Rattle.lines.specs.Digits.{digitOf, leading, worth, numeral};
+ghost use Rattle.lines.specs.Fields.{shown};
+ghost use Rattle.lines.specs.Numbers.{channelOf, sizeOf, valueOf};
+use crate::fault::NumberFault;
+use crate::part::Field;
+
+// The digits that a text begins with: how many, and the number that they write.
+#[derive(Clone, Copy)]
+struct DigitRun {
+    count: usize,
+    value: u32,
+}
+
+fn digit(byte: u8) -> Option<u32>
+    ensures { λ r. ⌜ r ≡ digitOf byte ⌝ }
+{
+    match byte {
+        b'0'..=b'9' => Some((byte - b'0') as u32),
+        _ => None,
+    }
+}
+
+// The digits that a text begins with, no more than `most` of them.
+fn leading_digits(text: &[u8], most: usize) -> DigitRun
+    requires { ⌜ most ≤ 6 ⌝ }
+    ensures count { λ r. ⌜ r .count ≡ leading most (now (text .entry)) ⌝ }
+    ensures value { λ r. ⌜ r .value ≡ worth (take (r .count) (now (text .entry))) ⌝ }
+    ensures within { λ r. ⌜ r .count ≤ length (now (text .entry)) ⌝ }
+    ensures small { λ r. ⌜ r .value < 10 ^ r .count ⌝ }
+{
+    let mut value = 0;
+    for (at, byte) in text.iter().enumerate() {
+        if at == most {
+            return DigitRun { count: at, value };
+        }
+        let Some(digit) = digit(*byte) else {
+            return DigitRun { count: at, value };
+        };
+        value = value * 10 + digit;
+    }
+    DigitRun { count: text.len(), value }
+}
+
+// A text of 1 to `most` digits; else how far the text follows that form.
+fn numeral_of(text: &[u8], most: usize) -> Result<u32, usize>
+    requires { ⌜ most ≤ 6 ⌝ }
+    ensures is { λ r. ⌜ r ≡ numeral most (now (text .entry)) ⌝ }
+    ensures ok { λ r. ⌜ Cases r (λ n. (n < 10 ^ length (now (text .entry))) × (1 ≤ length (now (text .entry))) × (length (now (text .entry)) ≤ most)) (λ at. at ≤ length (now (text .entry))) ⌝ }
+{
+    let run = leading_digits(text, most);
+    if run.count > 0 && run.count == text.len() {
+        Ok(run.value)
+    } else {
+        Err(run.count)
+    }
+}
+
+// How many thousandths the last of so many digits behind a point counts.
+fn last_place(digits: usize) -> u32
+    requires { ⌜ (1 ≤ digits) × (digits ≤ 3) ⌝ }
+    ensures { λ r. ⌜ r ≡ 10 ^ (3 - digits) ⌝ }
+{
+    match digits {
+        1 => 100,
+        2 => 10,
+        _ => 1,
+    }
+}
