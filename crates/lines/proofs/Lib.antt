@@ -1,3 +1,4 @@
 pub mod PartLaws
 pub mod FieldLaws
 pub mod DigitLaws
+pub mod NumberLaws

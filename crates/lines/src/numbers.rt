@@ -43,7 +43,10 @@ fn leading_digits(text: &[u8], most: usize) -> DigitRun
         };
         value = value * 10 + digit;
     }
-    DigitRun { count: text.len(), value }
+    DigitRun {
+        count: text.len(),
+        value,
+    }
 }
 
 // A text of 1 to `most` digits; else how far the text follows that form.
@@ -69,5 +72,61 @@ fn last_place(digits: usize) -> u32
         1 => 100,
         2 => 10,
         _ => 1,
+    }
+}
+
+// The thousandths of a value without its sign; else how far the text follows the form of one.
+fn thousandths(text: &[u8]) -> Result<u32, usize>
+    ensures is { λ r. ⌜ r ≡ sizeOf (now (text .entry)) ⌝ }
+    ensures small { λ r. ⌜ Cases r (λ n. n < 1_000_000_000) (λ at. at ≤ length (now (text .entry))) ⌝ }
+{
+    let DigitRun { count, value } = leading_digits(text, 6);
+    if count == 0 {
+        return Err(0);
+    }
+    match &text[count..] {
+        [] => Ok(value * 1000),
+        [b'.', fraction @ ..] => match numeral_of(fraction, 3) {
+            Ok(parts) => Ok(value * 1000 + parts * last_place(fraction.len())),
+            Err(at) => Err(count + 1 + at),
+        },
+        _ => Err(count),
+    }
+}
+
+impl Field<'_> {
+    // The channel that the field writes: 1 to 3 digits, at most 255.
+    pub fn channel(self) -> Result<u8, NumberFault>
+        ensures is { λ r. ⌜ r ≡ channelOf (shown (self .entry)) ⌝ }
+    {
+        match numeral_of(self.bytes, 3) {
+            Ok(number) if number <= 255 => Ok(number as u8),
+            Ok(_) => Err(NumberFault::Limit { field: self.number }),
+            Err(offset) => Err(NumberFault::Form {
+                field: self.number,
+                offset,
+            }),
+        }
+    }
+
+    // The value that the field writes, in signed thousandths: an optional minus, which covers the whole number,
+    // then 1 to 6 digits, then optionally a point and 1 to 3 digits.
+    pub fn value(self) -> Result<i32, NumberFault>
+        ensures is { λ r. ⌜ r ≡ valueOf (shown (self .entry)) ⌝ }
+    {
+        let field = self.number;
+        match self.bytes {
+            [b'-', digits @ ..] => match thousandths(digits) {
+                Ok(size) => Ok(-(size as i32)),
+                Err(at) => Err(NumberFault::Form {
+                    field,
+                    offset: at + 1,
+                }),
+            },
+            digits => match thousandths(digits) {
+                Ok(size) => Ok(size as i32),
+                Err(offset) => Err(NumberFault::Form { field, offset }),
+            },
+        }
     }
 }
