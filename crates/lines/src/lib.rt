@@ -6,8 +6,14 @@ mod fields;
 mod marks;
 mod numbers;
 mod part;
+mod reader;
+mod report;
 
+pub use fault::LineFault;
+pub use fault::LineFaultFromNumber;
 pub use fault::NumberFault;
+pub use fault::Report;
 pub use fields::field;
 pub use marks::cut;
 pub use part::Field;
+pub use reader::read;

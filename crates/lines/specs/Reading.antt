@@ -1,0 +1,72 @@
+-- What the reader answers at every line: the word first, then the number of fields, then the fields from the left.
+use mathlib.Core.Bool.{cond}
+use mathlib.Core.List.{List}
+use Prim.Native.Nat.{ℕ, _+_}
+use lib.Dec.{ltb}
+use lib.IntN.{ℤ, pos}
+use lib.ListN.{length}
+use Rattle.std.specs.declared.option.Option.{Option}
+use Rattle.std.specs.declared.option.Option.the-variants.{Some, None}
+use Rattle.std.specs.declared.result.Result.{Result}
+use Rattle.std.specs.declared.result.Result.the-variants.{Ok, Err}
+use Rattle.service.specs.declared.request.Operation.{Operation}
+use Rattle.service.specs.declared.request.Operation.the-variants.{Put, Drop, Count, Push, Pop}
+use Rattle.service.specs.declared.request.Request.{Request}
+use Rattle.lines.specs.declared.fault.LineFault.{LineFault}
+use Rattle.lines.specs.declared.fault.LineFault.the-variants.{Word, Missing, Surplus, Number}
+use Rattle.lines.specs.declared.fault.NumberFault.{NumberFault}
+use Rattle.lines.specs.Fields.{Place, fields, fieldOf}
+use Rattle.lines.specs.Numbers.{channelOf, valueOf}
+use Rattle.lines.specs.Parts.{nth}
+use Rattle.lines.specs.Words.{Kind, channel, value, kinds, operationOf}
+
+-- go on with what was read, or keep the fault
+abbrev pub then : {A B E : Type 0} → Result A E → (A → Result B E) → Result B E
+then (Ok x) go = go x
+then (Err e) go = Err e
+
+-- a number, or its fault as a fault of the line
+abbrev pub raised : {A : Type 0} → (A → ℤ) → Result A NumberFault → Result ℤ LineFault
+raised f (Ok n) = Ok (f n)
+raised f (Err e) = Err (Number e)
+
+abbrev pub numberOf : Kind → Place → Result ℤ LineFault
+numberOf channel p = raised pos (channelOf p)
+numberOf value p = raised (λ z. z) (valueOf p)
+
+abbrev pub present : Kind → ℕ → Option Place → Result ℤ LineFault
+present k n (Some p) = numberOf k p
+present k n None = Err (Missing n)
+
+-- the number in a line's field
+abbrev pub numberAt : Kind → List ℕ → ℕ → Result ℤ LineFault
+numberAt k line n = present k n (fieldOf line n)
+
+abbrev pub known : Option Operation → Result Operation LineFault
+known (Some op) = Ok op
+known None = Err Word
+
+abbrev pub wordOf : Option (List ℕ) → Result Operation LineFault
+wordOf (Some text) = known (operationOf text)
+wordOf None = Err Word
+
+-- the operation, once the line has as many fields as it takes
+abbrev pub counted : List ℕ → Operation → Result Operation LineFault
+counted line op =
+    cond (ltb (length (fields line)) (length (kinds op) + 1)) (Err (Missing (length (fields line))))
+    (cond (ltb (length (kinds op) + 1) (length (fields line))) (Err (Surplus (length (kinds op) + 1))) (Ok op))
+
+abbrev pub request : Operation → ℤ → ℤ → Request
+request op a b = record { operation = op; first = a; second = b }
+
+-- the numbers of an operation's fields
+abbrev pub asked : List ℕ → Operation → Result Request LineFault
+asked line Put = then (numberAt channel line 1) (λ a. then (numberAt value line 2) (λ b. Ok (request Put a b)))
+asked line Drop = then (numberAt channel line 1) (λ a. then (numberAt value line 2) (λ b. Ok (request Drop a b)))
+asked line Count = then (numberAt value line 1) (λ a. then (numberAt value line 2) (λ b. Ok (request Count a b)))
+asked line Push = then (numberAt value line 1) (λ a. Ok (request Push a (pos 0)))
+asked line Pop = Ok (request Pop (pos 0) (pos 0))
+
+-- a line's request, or its first fault
+abbrev pub readOf : List ℕ → Result Request LineFault
+readOf line = then (wordOf (nth (fields line) 0)) (λ op. then (counted line op) (asked line))
