@@ -17,3 +17,4 @@ pub use fields::field;
 pub use marks::cut;
 pub use part::Field;
 pub use reader::read;
+pub use report::LineFaultDisplay;
