@@ -2,3 +2,8 @@ pub mod PartLaws
 pub mod FieldLaws
 pub mod DigitLaws
 pub mod NumberLaws
+pub mod FormLaws
+pub mod ChannelLaws
+pub mod SizeLaws
+pub mod BreakLaws
+pub mod ValueLaws

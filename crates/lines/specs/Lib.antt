@@ -5,3 +5,4 @@ pub mod Numbers
 pub mod Faults
 pub mod Words
 pub mod Reading
+pub mod Forms
