@@ -1,16 +1,15 @@
 -- What the reader answers at every line: the word first, then the number of fields, then the fields from the left.
 use mathlib.Core.Bool.{cond}
-use mathlib.Core.List.{List}
+use mathlib.Core.List.{List, [], _∷_}
 use Prim.Native.Nat.{ℕ, _+_}
 use lib.Dec.{ltb}
 use lib.IntN.{ℤ, pos}
-use lib.ListN.{length}
+use lib.ListN.{length, getD}
 use Rattle.std.specs.declared.option.Option.{Option}
 use Rattle.std.specs.declared.option.Option.the-variants.{Some, None}
 use Rattle.std.specs.declared.result.Result.{Result}
 use Rattle.std.specs.declared.result.Result.the-variants.{Ok, Err}
 use Rattle.service.specs.declared.request.Operation.{Operation}
-use Rattle.service.specs.declared.request.Operation.the-variants.{Put, Drop, Count, Push, Pop}
 use Rattle.service.specs.declared.request.Request.{Request}
 use Rattle.lines.specs.declared.fault.LineFault.{LineFault}
 use Rattle.lines.specs.declared.fault.LineFault.the-variants.{Word, Missing, Surplus, Number}
@@ -56,16 +55,18 @@ counted line op =
     cond (ltb (length (fields line)) (length (kinds op) + 1)) (Err (Missing (length (fields line))))
     (cond (ltb (length (kinds op) + 1) (length (fields line))) (Err (Surplus (length (kinds op) + 1))) (Ok op))
 
-abbrev pub request : Operation → ℤ → ℤ → Request
-request op a b = record { operation = op; first = a; second = b }
+-- the numbers in a line's fields from field n on, each of its kind
+abbrev pub numbersOf : List Kind → ℕ → List ℕ → Result (List ℤ) LineFault
+numbersOf [] n line = Ok []
+numbersOf (k ∷ ks) n line = then (numberAt k line n) (λ z. then (numbersOf ks (n + 1) line) (λ zs. Ok (z ∷ zs)))
 
--- the numbers of an operation's fields
+-- an operation with its numbers in the order of its fields, 0 for one that it does not use
+abbrev pub request : Operation → List ℤ → Request
+request op zs = record { operation = op; first = getD zs 0 (pos 0); second = getD zs 1 (pos 0) }
+
+-- the request of a line whose operation is known
 abbrev pub asked : List ℕ → Operation → Result Request LineFault
-asked line Put = then (numberAt channel line 1) (λ a. then (numberAt value line 2) (λ b. Ok (request Put a b)))
-asked line Drop = then (numberAt channel line 1) (λ a. then (numberAt value line 2) (λ b. Ok (request Drop a b)))
-asked line Count = then (numberAt value line 1) (λ a. then (numberAt value line 2) (λ b. Ok (request Count a b)))
-asked line Push = then (numberAt value line 1) (λ a. Ok (request Push a (pos 0)))
-asked line Pop = Ok (request Pop (pos 0) (pos 0))
+asked line op = then (numbersOf (kinds op) 1 line) (λ zs. Ok (request op zs))
 
 -- a line's request, or its first fault
 abbrev pub readOf : List ℕ → Result Request LineFault

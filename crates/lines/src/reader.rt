@@ -4,7 +4,7 @@ ghost use lib.ListN.{length};
 ghost use Rattle.std.specs.shelf.Text.{sameBytes};
 ghost use Rattle.lines.specs.Fields.{fields};
 ghost use Rattle.lines.specs.Parts.{nth};
-ghost use Rattle.lines.specs.Reading.{then, wordOf, counted, numberAt, readOf};
+ghost use Rattle.lines.specs.Reading.{then, wordOf, counted, numberAt, asked, readOf};
 ghost use Rattle.lines.specs.Words.{channel, value, kinds, operationOf};
 use crate::fault::LineFault;
 use crate::fault::LineFaultFromNumber;
@@ -89,21 +89,24 @@ fn value_at(line: &[u8], number: usize) -> Result<i32, LineFault>
     Ok(found.value()?)
 }
 
-// The request that a line asks for, or the first fault: of the word, then of the number of fields, then of the
-// fields from the left.
-pub fn read(line: &[u8]) -> Result<Request, LineFault>
-    ensures is { λ r. ⌜ r ≡ readOf (now (line .entry)) ⌝ }
+// The request of a line whose operation is known: its numbers, in the order of the fields.
+fn request_of(line: &[u8], operation: Operation) -> Result<Request, LineFault>
+    ensures { λ r. ⌜ r ≡ asked (now (line .entry)) operation ⌝ }
 {
-    let operation = operation_of(line)?;
     let (first, second) = match operation {
         Operation::Put | Operation::Drop => (channel_at(line, 1)?, value_at(line, 2)?),
         Operation::Count => (value_at(line, 1)?, value_at(line, 2)?),
         Operation::Push => (value_at(line, 1)?, 0),
         Operation::Pop => (0, 0),
     };
-    Ok(Request {
-        operation,
-        first,
-        second,
-    })
+    Ok(Request { operation, first, second })
+}
+
+// The request that a line asks for, or the first fault: of the word, then of the number of fields, then of the
+// fields from the left.
+pub fn read(line: &[u8]) -> Result<Request, LineFault>
+    ensures is { λ r. ⌜ r ≡ readOf (now (line .entry)) ⌝ }
+{
+    let operation = operation_of(line)?;
+    request_of(line, operation)
 }
