@@ -29,18 +29,18 @@ module _ (field : ℕ) (bytes : List ℕ) where
       record { form = subst (Numeral 3 bytes) (went .1) (numeral-form 3 bytes n e); limit = subst (λ k. k ≤ 255) (went .1) low }
   channel-read (Err at) e x h = absurd (let z : _≡_ {A = ℕ} 0 1 = cc in omega arith)
 
-  channel-offset : (o : Result ℕ ℕ) → numeral 3 bytes ≡ o → (f at : ℕ) → limited field o ≡ Err (Form f at) → Breaks Channel-form bytes at
+  channel-offset : (o : Result ℕ ℕ) → numeral 3 bytes ≡ o → (f at : ℕ) → limited field o ≡ Err (Form f at) → (f ≡ field) × Breaks Channel-form bytes at
   channel-offset (Ok n) e f at h =
       let went = cond-err (leb n 255) n (Limit field) (Form f at) h .1 in
       absurd (let z : _≡_ {A = ℕ} 0 1 = cc in omega arith)
-  channel-offset (Err k) e f at h = let same : k ≡ at = cc in subst (Breaks Channel-form bytes) (numeral-err 3 bytes k e ∙ same) (numeral-breaks 3 bytes (omega arith))
+  channel-offset (Err k) e f at h = let same : k ≡ at = cc in (cc, subst (Breaks Channel-form bytes) (numeral-err 3 bytes k e ∙ same) (numeral-breaks 3 bytes (omega arith)))
 
-  channel-over : (o : Result ℕ ℕ) → numeral 3 bytes ≡ o → (f : ℕ) → limited field o ≡ Err (Limit f) → Channel-form bytes
-  channel-over (Ok n) e f h = (n, numeral-form 3 bytes n e)
+  channel-over : (o : Result ℕ ℕ) → numeral 3 bytes ≡ o → (f : ℕ) → limited field o ≡ Err (Limit f) → (f ≡ field) × Channel-form bytes
+  channel-over (Ok n) e f h = let same = cond-err (leb n 255) n (Limit field) (Limit f) h .1 in (cc, (n, numeral-form 3 bytes n e))
   channel-over (Err k) e f h = absurd (let z : _≡_ {A = ℕ} 0 1 = cc in omega arith)
 
-  pub channel-reads : Reads Channel Channel-form bytes (limited field (numeral 3 bytes))
-  channel-reads =
+  channel-reads : (begins : ℕ) → Reads Channel Channel-form (record { number = field; begins = begins; text = bytes }) (limited field (numeral 3 bytes))
+  channel-reads begins =
       record {
         read = channel-read (numeral 3 bytes) refl;
         readable = λ n c. ap (limited field) (form-numeral 3 bytes n (c .form)) ∙ cond-true (leb n 255) _ _ (le-leb n 255 (c .limit));
@@ -48,5 +48,5 @@ module _ (field : ℕ) (bytes : List ℕ) where
         over = channel-over (numeral 3 bytes) refl;
       }
 
-pub channel-reads-as : (p : Place) (r : Result ℕ NumberFault) → r ≡ channelOf p → Reads Channel Channel-form (p .text) r
-channel-reads-as p r e = subst (Reads Channel Channel-form (p .text)) (sym e) (channel-reads (p .number) (p .text))
+pub channel-reads-as : (p : Place) (r : Result ℕ NumberFault) → r ≡ channelOf p → Reads Channel Channel-form p r
+channel-reads-as p r e = subst (Reads Channel Channel-form p) (sym e) (channel-reads (p .number) (p .text) (p .begins))

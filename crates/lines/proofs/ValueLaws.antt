@@ -54,11 +54,11 @@ module _ (field : ℕ) (bytes : List ℕ) (unsigned : Unsigned bytes) where
         longest = plus-longest at b;
       }
 
-  plus-offset : (o : Result ℕ ℕ) → sizeOf bytes ≡ o → (f at : ℕ) → plus field o ≡ Err (Form f at) → Breaks Value-form bytes at
+  plus-offset : (o : Result ℕ ℕ) → sizeOf bytes ≡ o → (f at : ℕ) → plus field o ≡ Err (Form f at) → (f ≡ field) × Breaks Value-form bytes at
   plus-offset (Ok n) e f at h = absurd (let z : _≡_ {A = ℕ} 0 1 = cc in omega arith)
-  plus-offset (Err k) e f at h = let same : k ≡ at = cc in subst (Breaks Value-form bytes) same (plus-breaks k (size-breaks bytes k e))
+  plus-offset (Err k) e f at h = let same : k ≡ at = cc in (cc, subst (Breaks Value-form bytes) same (plus-breaks k (size-breaks bytes k e)))
 
-  plus-over : (o : Result ℕ ℕ) (f : ℕ) → plus field o ≡ Err (Limit f) → Value-form bytes
+  plus-over : (o : Result ℕ ℕ) (f : ℕ) → plus field o ≡ Err (Limit f) → (f ≡ field) × Value-form bytes
   plus-over (Ok n) f h = absurd (let z : _≡_ {A = ℕ} 0 1 = cc in omega arith)
   plus-over (Err k) f h = absurd (let z : _≡_ {A = ℕ} 0 1 = cc in omega arith)
 
@@ -66,8 +66,8 @@ module _ (field : ℕ) (bytes : List ℕ) (unsigned : Unsigned bytes) where
   plus-readable z (inl v) = ap (plus field) (form-size bytes (v .thousandths) (v .form)) ∙ ap Ok (sym (v .worth))
   plus-readable z (inr v) = absurd (unsigned (v .rest) (v .written))
 
-  plus-reads : Reads Value Value-form bytes (plus field (sizeOf bytes))
-  plus-reads = record { read = plus-read (sizeOf bytes) refl; readable = plus-readable; offset = plus-offset (sizeOf bytes) refl; over = plus-over (sizeOf bytes) }
+  plus-reads : (begins : ℕ) → Reads Value Value-form (record { number = field; begins = begins; text = bytes }) (plus field (sizeOf bytes))
+  plus-reads begins = record { read = plus-read (sizeOf bytes) refl; readable = plus-readable; offset = plus-offset (sizeOf bytes) refl; over = plus-over (sizeOf bytes) }
 
 module _ (field : ℕ) (rest : List ℕ) where
   minus-read : (o : Result ℕ ℕ) → sizeOf rest ≡ o → (z : ℤ) → minus field o ≡ Ok z → Value (45 ∷ rest) z
@@ -91,13 +91,13 @@ module _ (field : ℕ) (rest : List ℕ) where
         longest = minus-longest at b;
       }
 
-  minus-offset : (o : Result ℕ ℕ) → sizeOf rest ≡ o → (f at : ℕ) → minus field o ≡ Err (Form f at) → Breaks Value-form (45 ∷ rest) at
+  minus-offset : (o : Result ℕ ℕ) → sizeOf rest ≡ o → (f at : ℕ) → minus field o ≡ Err (Form f at) → (f ≡ field) × Breaks Value-form (45 ∷ rest) at
   minus-offset (Ok n) e f at h = absurd (let z : _≡_ {A = ℕ} 0 1 = cc in omega arith)
   minus-offset (Err k) e f at h =
       let same : k + 1 ≡ at = cc in
-      subst (Breaks Value-form (45 ∷ rest)) (sym (add-one k) ∙ same) (minus-breaks k (size-breaks rest k e))
+      (cc, subst (Breaks Value-form (45 ∷ rest)) (sym (add-one k) ∙ same) (minus-breaks k (size-breaks rest k e)))
 
-  minus-over : (o : Result ℕ ℕ) (f : ℕ) → minus field o ≡ Err (Limit f) → Value-form (45 ∷ rest)
+  minus-over : (o : Result ℕ ℕ) (f : ℕ) → minus field o ≡ Err (Limit f) → (f ≡ field) × Value-form (45 ∷ rest)
   minus-over (Ok n) f h = absurd (let z : _≡_ {A = ℕ} 0 1 = cc in omega arith)
   minus-over (Err k) f h = absurd (let z : _≡_ {A = ℕ} 0 1 = cc in omega arith)
 
@@ -107,21 +107,21 @@ module _ (field : ℕ) (rest : List ℕ) where
       let same : v .rest ≡ rest = let e = v .written in cc in
       ap (λ l. minus field (sizeOf l)) (sym same) ∙ ap (minus field) (form-size (v .rest) (v .thousandths) (v .form)) ∙ ap Ok (sym (v .worth))
 
-  minus-reads : Reads Value Value-form (45 ∷ rest) (minus field (sizeOf rest))
-  minus-reads = record { read = minus-read (sizeOf rest) refl; readable = minus-readable; offset = minus-offset (sizeOf rest) refl; over = minus-over (sizeOf rest) }
+  minus-reads : (begins : ℕ) → Reads Value Value-form (record { number = field; begins = begins; text = 45 ∷ rest }) (minus field (sizeOf rest))
+  minus-reads begins = record { read = minus-read (sizeOf rest) refl; readable = minus-readable; offset = minus-offset (sizeOf rest) refl; over = minus-over (sizeOf rest) }
 
-pub value-reads : (field : ℕ) (bytes : List ℕ) → Reads Value Value-form bytes (signedOf field bytes)
-value-reads field [] = plus-reads field [] (λ rest e. let z : _≡_ {A = ℕ} 0 1 = cc in omega arith)
-value-reads field (b ∷ bs) =
+value-reads : (field begins : ℕ) (bytes : List ℕ) → Reads Value Value-form (record { number = field; begins = begins; text = bytes }) (signedOf field bytes)
+value-reads field begins [] = plus-reads field [] (λ rest e. let z : _≡_ {A = ℕ} 0 1 = cc in omega arith) begins
+value-reads field begins (b ∷ bs) =
     ⊎-elim
     (λ t.
       let minus-first : 45 ≡ b = sym (eqb-true b 45 t) in
-      let r : Reads Value Value-form (b ∷ bs) (minus field (sizeOf bs)) = subst (λ x. Reads Value Value-form (x ∷ bs) (minus field (sizeOf bs))) minus-first (minus-reads field bs) in
-      subst (Reads Value Value-form (b ∷ bs)) (sym (cond-true (eqb b 45) _ _ t)) r)
+      let r = subst (λ x. Reads Value Value-form (record { number = field; begins = begins; text = x ∷ bs }) (minus field (sizeOf bs))) minus-first (minus-reads field bs begins) in
+      subst (Reads Value Value-form (record { number = field; begins = begins; text = b ∷ bs })) (sym (cond-true (eqb b 45) _ _ t)) r)
     (λ t.
       let u : Unsigned (b ∷ bs) = λ rest e. eqb-false b 45 t (cc) in
-      subst (Reads Value Value-form (b ∷ bs)) (sym (cond-false (eqb b 45) _ _ t)) (plus-reads field (b ∷ bs) u))
+      subst (Reads Value Value-form (record { number = field; begins = begins; text = b ∷ bs })) (sym (cond-false (eqb b 45) _ _ t)) (plus-reads field (b ∷ bs) u begins))
     (cases-bool (eqb b 45))
 
-pub value-reads-as : (p : Place) (r : Result ℤ NumberFault) → r ≡ valueOf p → Reads Value Value-form (p .text) r
-value-reads-as p r e = subst (Reads Value Value-form (p .text)) (sym e) (value-reads (p .number) (p .text))
+pub value-reads-as : (p : Place) (r : Result ℤ NumberFault) → r ≡ valueOf p → Reads Value Value-form p r
+value-reads-as p r e = subst (Reads Value Value-form p) (sym e) (value-reads (p .number) (p .begins) (p .text))

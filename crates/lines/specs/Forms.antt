@@ -10,6 +10,7 @@ use Rattle.std.specs.declared.result.Result.the-variants.{Ok, Err}
 use Rattle.std.specs.shelf.Digits.{number, Under}
 use Rattle.lines.specs.declared.fault.NumberFault.{NumberFault}
 use Rattle.lines.specs.declared.fault.NumberFault.the-variants.{Form, Limit}
+use Rattle.lines.specs.Fields.{Place}
 
 -- the bytes that write digits
 abbrev pub text : List ℕ → List ℕ
@@ -77,13 +78,13 @@ pub record Breaks (Good : List ℕ → Type 0) (bytes : List ℕ) (offset : ℕ)
   pub begun : Begun Good bytes offset
   pub longest : (k : ℕ) → k ≤ length bytes → Begun Good bytes k → k ≤ offset
 
--- a field is read as a number exactly when it has that number's form; else its form breaks at the offset that the
--- fault gives, or it is of good form and over its limit
-pub record Reads {A : Type 0} (Means : List ℕ → A → Type 0) (Good : List ℕ → Type 0) (bytes : List ℕ) (r : Result A NumberFault) : Type 0 where
-  pub read : (x : A) → r ≡ Ok x → Means bytes x
-  pub readable : (x : A) → Means bytes x → r ≡ Ok x
-  pub offset : (field at : ℕ) → r ≡ Err (Form field at) → Breaks Good bytes at
-  pub over : (field : ℕ) → r ≡ Err (Limit field) → Good bytes
+-- a field is read as a number exactly when it has that number's form; else the fault names this field, and its form
+-- breaks at the offset that the fault gives, or it is of good form and over its limit
+pub record Reads {A : Type 0} (Means : List ℕ → A → Type 0) (Good : List ℕ → Type 0) (p : Place) (r : Result A NumberFault) : Type 0 where
+  pub read : (x : A) → r ≡ Ok x → Means (p .text) x
+  pub readable : (x : A) → Means (p .text) x → r ≡ Ok x
+  pub offset : (field at : ℕ) → r ≡ Err (Form field at) → (field ≡ p .number) × Breaks Good (p .text) at
+  pub over : (field : ℕ) → r ≡ Err (Limit field) → (field ≡ p .number) × Good (p .text)
 
 -- the good forms, whatever the number
 abbrev pub Channel-form : List ℕ → Type 0

@@ -99,7 +99,7 @@ impl Field<'_> {
     // The channel that the field writes: 1 to 3 digits, at most 255.
     pub fn channel(self) -> Result<u8, NumberFault>
         ensures is { λ r. ⌜ r ≡ channelOf (shown (self .entry)) ⌝ }
-        ensures reads { λ r. ⌜ Reads Channel Channel-form (now (self .entry .bytes)) r ⌝ }
+        ensures reads { λ r. ⌜ Reads Channel Channel-form (shown (self .entry)) r ⌝ }
     {
         match numeral_of(self.bytes, 3) {
             Ok(number) if number <= 255 => Ok(number as u8),
@@ -115,7 +115,7 @@ impl Field<'_> {
     // then 1 to 6 digits, then optionally a point and 1 to 3 digits.
     pub fn value(self) -> Result<i32, NumberFault>
         ensures is { λ r. ⌜ r ≡ valueOf (shown (self .entry)) ⌝ }
-        ensures reads { λ r. ⌜ Reads Value Value-form (now (self .entry .bytes)) r ⌝ }
+        ensures reads { λ r. ⌜ Reads Value Value-form (shown (self .entry)) r ⌝ }
     {
         let field = self.number;
         match self.bytes {
