@@ -31,14 +31,25 @@ point-begun bytes k bs f le e =
     let b = digits-begin 3 j bs (omega arith) (omega arith) in
     let front = take k bytes in
     let whole : bytes ≡ (front ++ (46 ∷ take j bs)) ++ drop j bs =
-        sym (take-append-drop k bytes) ∙ ap (λ l. front ++ l) (e ∙ ap (λ l. 46 ∷ l) (sym (take-append-drop j bs))) ∙ sym (append-assoc front (46 ∷ take j bs) (drop j bs)) in
+    sym (take-append-drop k bytes) ∙ ap (λ l. front ++ l) (e ∙ ap (λ l. 46 ∷ l) (sym (take-append-drop j bs))) ∙ sym (append-assoc front (46 ∷ take j bs) (drop j bs)) in
     let long : length (front ++ (46 ∷ take j bs)) ≡ k + 1 + j =
-        length-append front (46 ∷ take j bs) ∙ omega (arith, length-take-le k bytes le, length-take-le j bs (leading-length 3 bs)) in
-    let cut : take (k + 1 + j) bytes ≡ front ++ (46 ∷ take j bs) = ap (take (k + 1 + j)) whole ∙ take-at (front ++ (46 ∷ take j bs)) (drop j bs) (k + 1 + j) long in
-    (b .0, (_, inr (record {
-      front = front; back = take j bs ++ b .0; units = worth front; parts = b .1 .0; whole = f; fraction = b .1 .1;
-      written = ap (λ l. l ++ b .0) cut ∙ append-assoc front (46 ∷ take j bs) (b .0); worth = refl;
-    })))
+    length-append front (46 ∷ take j bs) ∙ omega (arith, length-take-le k bytes le, length-take-le j bs (leading-length 3 bs)) in
+    let cut : take (k + 1 + j) bytes ≡ front ++ (46 ∷ take j bs) = ap (take (k + 1 + j)) whole ∙ take-at (front ++ (46 ∷ take j bs)) (drop j bs) (k + 1 + j) long in (
+      b .0,
+      (
+        _,
+        inr (record {
+          front = front;
+          back = take j bs ++ b .0;
+          units = worth front;
+          parts = b .1 .0;
+          whole = f;
+          fraction = b .1 .1;
+          written = ap (λ l. l ++ b .0) cut ∙ append-assoc front (46 ∷ take j bs) (b .0);
+          worth = refl;
+        }),
+      ),
+    )
 
 behind-begun : (bytes : List ℕ) (k : ℕ) → Numeral 6 (take k bytes) (worth (take k bytes)) → k ≤ leading 6 bytes → (rest : List ℕ) → drop k bytes ≡ rest → Begun Size-form bytes (far-behind k rest)
 behind-begun bytes k f le [] e = whole-begun bytes k le
@@ -53,8 +64,8 @@ far-begun bytes =
     cond-both (eqb k 0) _ _ (Begun Size-form bytes)
     (λ t. whole-begun bytes 0 (omega arith))
     (λ t.
-      let some : 1 ≤ leading 6 bytes = let ne = eqb-false (leading 6 bytes) 0 t in omega (arith, ne) in
-      behind-begun bytes k (front-form 6 k bytes some (omega arith)) (omega arith) (drop k bytes) refl)
+    let some : 1 ≤ leading 6 bytes = let ne = eqb-false (leading 6 bytes) 0 t in omega (arith, ne) in
+    behind-begun bytes k (front-form 6 k bytes some (omega arith)) (omega arith) (drop k bytes) refl)
 
 -- no farther than the text, and at least over its leading digits
 behind-within : (k m : ℕ) (rest : List ℕ) → length rest + k ≡ m → (k ≤ far-behind k rest) × (far-behind k rest ≤ m)
@@ -93,18 +104,18 @@ pointed-longest : (bytes : List ℕ) (k : ℕ) (more : List ℕ) (n : ℕ) → k
 pointed-longest bytes k more n le p =
     ⊎-elim
     (λ lt.
-      let s = split-behind (take k bytes) more (p .front) 46 (p .back) (p .written) (omega (arith, long, lt)) in
-      let q = s .0 in
-      let whole : bytes ≡ p .front ++ (46 ∷ (q ++ drop k bytes)) =
-          sym (take-append-drop k bytes) ∙ ap (λ l. l ++ drop k bytes) (s .1) ∙ append-assoc (p .front) (46 ∷ q) (drop k bytes) in
-      let back : leading 3 (q ++ more) ≡ length (q ++ more) = subst (λ b. leading 3 b ≡ length b) (sym (s .2)) (numeral-whole 3 (p .back) (p .parts) (p .fraction)) in
-      let swapped = leading-swap 3 q more (drop k bytes) (omega (arith, back, length-append q more)) in
-      let reach : far bytes ≡ length (p .front) + 1 + leading 3 (q ++ drop k bytes) = ap far whole ∙ far-pointed (p .front) (p .units) (q ++ drop k bytes) (p .whole) in
-      omega (arith, reach, swapped, long, ap length (s .1) ∙ length-append (p .front) (46 ∷ q)))
+    let s = split-behind (take k bytes) more (p .front) 46 (p .back) (p .written) (omega (arith, long, lt)) in
+    let q = s .0 in
+    let whole : bytes ≡ p .front ++ (46 ∷ (q ++ drop k bytes)) =
+    sym (take-append-drop k bytes) ∙ ap (λ l. l ++ drop k bytes) (s .1) ∙ append-assoc (p .front) (46 ∷ q) (drop k bytes) in
+    let back : leading 3 (q ++ more) ≡ length (q ++ more) = subst (λ b. leading 3 b ≡ length b) (sym (s .2)) (numeral-whole 3 (p .back) (p .parts) (p .fraction)) in
+    let swapped = leading-swap 3 q more (drop k bytes) (omega (arith, back, length-append q more)) in
+    let reach : far bytes ≡ length (p .front) + 1 + leading 3 (q ++ drop k bytes) = ap far whole ∙ far-pointed (p .front) (p .units) (q ++ drop k bytes) (p .whole) in
+    omega (arith, reach, swapped, long, ap length (s .1) ∙ length-append (p .front) (46 ∷ q)))
     (λ ge.
-      let lead = whole-leading (p .front) (p .units) (p .back) (p .whole) in
-      let same : leading 6 (take k bytes ++ more) ≡ length (p .front) = ap (leading 6) (p .written) ∙ lead in
-      omega (arith, leading-begun 6 k bytes more le (omega (arith, same, ge)), far-within bytes .0))
+    let lead = whole-leading (p .front) (p .units) (p .back) (p .whole) in
+    let same : leading 6 (take k bytes ++ more) ≡ length (p .front) = ap (leading 6) (p .written) ∙ lead in
+    omega (arith, leading-begun 6 k bytes more le (omega (arith, same, ge)), far-within bytes .0))
     (cases-lt (length (p .front)) k)
   where
     long : length (take k bytes) ≡ k
@@ -114,8 +125,8 @@ size-longest : (bytes : List ℕ) (k : ℕ) → k ≤ length bytes → Begun Siz
 size-longest bytes k le (more, (n, s)) =
     ⊎-elim
     (λ (w : Whole (take k bytes ++ more) n).
-      let all = numeral-whole 6 (take k bytes ++ more) (w .units) (w .whole) in
-      omega (arith, leading-begun 6 k bytes more le (omega (arith, all, length-append (take k bytes) more, length-take-le k bytes le)), far-within bytes .0))
+    let all = numeral-whole 6 (take k bytes ++ more) (w .units) (w .whole) in
+    omega (arith, leading-begun 6 k bytes more le (omega (arith, all, length-append (take k bytes) more, length-take-le k bytes le)), far-within bytes .0))
     (λ (p : Pointed (take k bytes ++ more) n). pointed-longest bytes k more n le p)
     s
 

@@ -43,13 +43,13 @@ front-digits (suc most) (suc k) [] le = (refl, tt)
 front-digits (suc most) (suc k) (b ∷ bs) le =
     ⊎-elim
     (λ e.
-      let more : leading (suc most) (b ∷ bs) ≡ suc (leading most bs) = cond-true (isDigit b) _ _ e in
-      let ih = front-digits most k bs (omega (arith, more)) in
-      let low = leb-true 48 b (and-parts (leb 48 b) (leb b 57) e .0) in
-      let high = leb-true b 57 (and-parts (leb 48 b) (leb b 57) e .1) in
-      let here : b ≡ 48 + (b - 48) = omega arith in
-      let rest = ih .0 in
-      (cc, (omega arith, ih .1)))
+    let more : leading (suc most) (b ∷ bs) ≡ suc (leading most bs) = cond-true (isDigit b) _ _ e in
+    let ih = front-digits most k bs (omega (arith, more)) in
+    let low = leb-true 48 b (and-parts (leb 48 b) (leb b 57) e .0) in
+    let high = leb-true b 57 (and-parts (leb 48 b) (leb b 57) e .1) in
+    let here : b ≡ 48 + (b - 48) = omega arith in
+    let rest = ih .0 in
+    (cc, (omega arith, ih .1)))
     (λ e. let none : leading (suc most) (b ∷ bs) ≡ 0 = cond-false (isDigit b) _ _ e in absurd (omega (arith, none)))
     (cases-bool (isDigit b))
 
@@ -60,10 +60,10 @@ leading-swap zero (b ∷ p) q r le = le
 leading-swap (suc most) (b ∷ p) q r le =
     ⊎-elim
     (λ e.
-      let q-more : leading (suc most) (b ∷ (p ++ q)) ≡ suc (leading most (p ++ q)) = cond-true (isDigit b) _ _ e in
-      let r-more : leading (suc most) (b ∷ (p ++ r)) ≡ suc (leading most (p ++ r)) = cond-true (isDigit b) _ _ e in
-      let ih = leading-swap most p q r (omega (arith, q-more)) in
-      omega (arith, r-more, ih))
+    let q-more : leading (suc most) (b ∷ (p ++ q)) ≡ suc (leading most (p ++ q)) = cond-true (isDigit b) _ _ e in
+    let r-more : leading (suc most) (b ∷ (p ++ r)) ≡ suc (leading most (p ++ r)) = cond-true (isDigit b) _ _ e in
+    let ih = leading-swap most p q r (omega (arith, q-more)) in
+    omega (arith, r-more, ih))
     (λ e. let none : leading (suc most) (b ∷ (p ++ q)) ≡ 0 = cond-false (isDigit b) _ _ e in absurd (omega (arith, none)))
     (cases-bool (isDigit b))
 
@@ -106,7 +106,7 @@ pub front-form : (most k : ℕ) (bytes : List ℕ) → 1 ≤ k → k ≤ leading
 front-form most k bytes some le =
     let h = front-digits most k bytes le in
     let long : length (map (λ b. b - 48) (take k bytes)) ≡ k =
-        length-map (take k bytes) (λ b. b - 48) ∙ length-take-le k bytes (omega (arith, leading-length most bytes)) in
+    length-map (take k bytes) (λ b. b - 48) ∙ length-take-le k bytes (omega (arith, leading-length most bytes)) in
     record {
       digits = map (λ b. b - 48) (take k bytes);
       each = h .1;

@@ -7,3 +7,7 @@ pub mod ChannelLaws
 pub mod SizeLaws
 pub mod BreakLaws
 pub mod ValueLaws
+pub mod JoinLaws
+pub mod WordLaws
+pub mod LineLaws
+pub mod ReadLaws

@@ -70,12 +70,18 @@ behind-form bytes k n f (b ∷ bs) e h = ⊎-elim (λ t. at-point t (numeral 3 b
     at-point : eqb b 46 ≡ true → (o : Result ℕ ℕ) → numeral 3 bs ≡ o → Size bytes n
     at-point t (Ok m) o =
         let same : behind (worth (take k bytes)) k (b ∷ bs) ≡ Ok (worth (take k bytes) * 1000 + m * 10 ^ (3 - length bs)) =
-            cond-true (eqb b 46) _ _ t ∙ ap (pointed (worth (take k bytes)) k (length bs)) o in
+        cond-true (eqb b 46) _ _ t ∙ ap (pointed (worth (take k bytes)) k (length bs)) o in
         let point : b ≡ 46 = eqb-true b 46 t in
         let worth-is : n ≡ worth (take k bytes) * 1000 + m * 10 ^ (3 - length bs) = cc in
         inr (record {
-          front = take k bytes; back = bs; units = worth (take k bytes); parts = m; whole = f; fraction = numeral-form 3 bs m o;
-          written = sym e ∙ ap (λ x. take k bytes ++ (x ∷ bs)) point; worth = worth-is;
+          front = take k bytes;
+          back = bs;
+          units = worth (take k bytes);
+          parts = m;
+          whole = f;
+          fraction = numeral-form 3 bs m o;
+          written = sym e ∙ ap (λ x. take k bytes ++ (x ∷ bs)) point;
+          worth = worth-is;
         })
     at-point t (Err m) o =
         let same : behind (worth (take k bytes)) k (b ∷ bs) ≡ Err (k + 1 + m) = cond-true (eqb b 46) _ _ t ∙ ap (pointed (worth (take k bytes)) k (length bs)) o in
@@ -86,10 +92,10 @@ size-form bytes n e =
     ⊎-elim
     (λ t. let none : sizeOf bytes ≡ Err 0 = cond-true (eqb (leading 6 bytes) 0) _ _ t in absurd (let z : _≡_ {A = ℕ} 0 1 = cc in omega arith))
     (λ t.
-      let k = leading 6 bytes in
-      let some : 1 ≤ leading 6 bytes = let ne = eqb-false (leading 6 bytes) 0 t in omega (arith, ne) in
-      behind-form bytes k n (front-form 6 k bytes some (omega arith)) (drop k bytes) (take-append-drop k bytes)
-      (sym (cond-false (eqb (leading 6 bytes) 0) _ _ t) ∙ e))
+    let k = leading 6 bytes in
+    let some : 1 ≤ leading 6 bytes = let ne = eqb-false (leading 6 bytes) 0 t in omega (arith, ne) in
+    behind-form bytes k n (front-form 6 k bytes some (omega arith)) (drop k bytes) (take-append-drop k bytes)
+    (sym (cond-false (eqb (leading 6 bytes) 0) _ _ t) ∙ e))
     (cases-bool (eqb (leading 6 bytes) 0))
 
 -- how far a text follows the form of a size
@@ -123,10 +129,10 @@ pub size-err : (bytes : List ℕ) (at : ℕ) → sizeOf bytes ≡ Err at → far
 size-err bytes at e =
     ⊎-elim
     (λ t.
-      let none : sizeOf bytes ≡ Err 0 = cond-true (eqb (leading 6 bytes) 0) _ _ t in
-      let same : 0 ≡ at = cc in
-      cond-true (eqb (leading 6 bytes) 0) _ _ t ∙ same)
+    let none : sizeOf bytes ≡ Err 0 = cond-true (eqb (leading 6 bytes) 0) _ _ t in
+    let same : 0 ≡ at = cc in
+    cond-true (eqb (leading 6 bytes) 0) _ _ t ∙ same)
     (λ t.
-      cond-false (eqb (leading 6 bytes) 0) _ _ t
-      ∙ behind-err (worth (take (leading 6 bytes) bytes)) (leading 6 bytes) (drop (leading 6 bytes) bytes) at (sym (cond-false (eqb (leading 6 bytes) 0) _ _ t) ∙ e))
+    cond-false (eqb (leading 6 bytes) 0) _ _ t
+    ∙ behind-err (worth (take (leading 6 bytes) bytes)) (leading 6 bytes) (drop (leading 6 bytes) bytes) at (sym (cond-false (eqb (leading 6 bytes) 0) _ _ t) ∙ e))
     (cases-bool (eqb (leading 6 bytes) 0))

@@ -115,12 +115,12 @@ value-reads field begins [] = plus-reads field [] (λ rest e. let z : _≡_ {A =
 value-reads field begins (b ∷ bs) =
     ⊎-elim
     (λ t.
-      let minus-first : 45 ≡ b = sym (eqb-true b 45 t) in
-      let r = subst (λ x. Reads Value Value-form (record { number = field; begins = begins; text = x ∷ bs }) (minus field (sizeOf bs))) minus-first (minus-reads field bs begins) in
-      subst (Reads Value Value-form (record { number = field; begins = begins; text = b ∷ bs })) (sym (cond-true (eqb b 45) _ _ t)) r)
+    let minus-first : 45 ≡ b = sym (eqb-true b 45 t) in
+    let r = subst (λ x. Reads Value Value-form (record { number = field; begins = begins; text = x ∷ bs }) (minus field (sizeOf bs))) minus-first (minus-reads field bs begins) in
+    subst (Reads Value Value-form (record { number = field; begins = begins; text = b ∷ bs })) (sym (cond-true (eqb b 45) _ _ t)) r)
     (λ t.
-      let u : Unsigned (b ∷ bs) = λ rest e. eqb-false b 45 t (cc) in
-      subst (Reads Value Value-form (record { number = field; begins = begins; text = b ∷ bs })) (sym (cond-false (eqb b 45) _ _ t)) (plus-reads field (b ∷ bs) u begins))
+    let u : Unsigned (b ∷ bs) = λ rest e. eqb-false b 45 t (cc) in
+    subst (Reads Value Value-form (record { number = field; begins = begins; text = b ∷ bs })) (sym (cond-false (eqb b 45) _ _ t)) (plus-reads field (b ∷ bs) u begins))
     (cases-bool (eqb b 45))
 
 pub value-reads-as : (p : Place) (r : Result ℤ NumberFault) → r ≡ valueOf p → Reads Value Value-form p r

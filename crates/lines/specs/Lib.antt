@@ -6,3 +6,4 @@ pub mod Faults
 pub mod Words
 pub mod Reading
 pub mod Forms
+pub mod Asking

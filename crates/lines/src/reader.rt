@@ -2,6 +2,7 @@
 ghost use mathlib.Core.Path.{_≡_};
 ghost use lib.ListN.{length};
 ghost use Rattle.std.specs.shelf.Text.{sameBytes};
+ghost use Rattle.lines.specs.Asking.{Read-exactly};
 ghost use Rattle.lines.specs.Fields.{fields};
 ghost use Rattle.lines.specs.Parts.{nth};
 ghost use Rattle.lines.specs.Reading.{then, wordOf, counted, numberAt, asked, readOf};
@@ -99,13 +100,18 @@ fn request_of(line: &[u8], operation: Operation) -> Result<Request, LineFault>
         Operation::Push => (value_at(line, 1)?, 0),
         Operation::Pop => (0, 0),
     };
-    Ok(Request { operation, first, second })
+    Ok(Request {
+        operation,
+        first,
+        second,
+    })
 }
 
 // The request that a line asks for, or the first fault: of the word, then of the number of fields, then of the
 // fields from the left.
 pub fn read(line: &[u8]) -> Result<Request, LineFault>
     ensures is { λ r. ⌜ r ≡ readOf (now (line .entry)) ⌝ }
+    ensures exactly { λ r. ⌜ Read-exactly (now (line .entry)) r ⌝ }
 {
     let operation = operation_of(line)?;
     request_of(line, operation)

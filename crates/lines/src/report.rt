@@ -48,7 +48,11 @@ impl LineFault {
 // The fault in words, with its numbers.
 pub impl fmt::Display for LineFault as LineFaultDisplay {
     fn fmt<W: fmt::Write>(&self, f: &mut fmt::Formatter<W>) -> fmt::Result {
-        let Report { cause, field, offset } = self.report();
+        let Report {
+            cause,
+            field,
+            offset,
+        } = self.report();
         let words = match self {
             LineFault::Word => "no operation has this word",
             LineFault::Missing { .. } => "this field is missing",

@@ -26,7 +26,10 @@ pub impl fmt::Display for Request as RequestDisplay {
         match self.operation {
             Operation::Put => write!(f, "put {second} thousandths on channel {first}"),
             Operation::Drop => write!(f, "drop {second} thousandths from channel {first}"),
-            Operation::Count => write!(f, "count the readings from {first} to {second} thousandths"),
+            Operation::Count => write!(
+                f,
+                "count the readings from {first} to {second} thousandths"
+            ),
             Operation::Push => write!(f, "push {first} thousandths"),
             Operation::Pop => write!(f, "pop"),
         }

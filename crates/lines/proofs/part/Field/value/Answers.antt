@@ -16,17 +16,17 @@ pub returns-in-Ok : need.returns-in-Ok
 returns-in-Ok c =
     let p = shown (c .args .self) in
     let e =
-        ap Ok (omega (arith, ints, c .in-Ok .ensures tt .small))
-        ∙ ap (minus (p .number)) (c .in-Ok .ensures tt .is)
-        ∙ sym (signed-minus (p .number) (p .text) (search needs) (search needs)) in
+    ap Ok (omega (arith, ints, c .in-Ok .ensures tt .small))
+    ∙ ap (minus (p .number)) (c .in-Ok .ensures tt .is)
+    ∙ sym (signed-minus (p .number) (p .text) (search needs) (search needs)) in
     record { is = e; reads = value-reads-as p _ e }
 
 pub returns-in-Err : need.returns-in-Err
 returns-in-Err c =
     let p = shown (c .args .self) in
     let e =
-        ap (minus (p .number)) (c .in-Err .ensures tt .is)
-        ∙ sym (signed-minus (p .number) (p .text) (search needs) (search needs)) in
+    ap (minus (p .number)) (c .in-Err .ensures tt .is)
+    ∙ sym (signed-minus (p .number) (p .text) (search needs) (search needs)) in
     record { is = e; reads = value-reads-as p _ e }
 
 pub returns-in-Ok-thousandths : need.returns-in-Ok-thousandths
