@@ -22,7 +22,7 @@ use Rattle.lines.specs.declared.fault.NumberFault.the-variants.{Form}
 use Rattle.lines.specs.Asking.{joined, Asks, Broken, Read-exactly}
 use Rattle.lines.specs.Fields.{fields}
 use Rattle.lines.specs.Parts.{nth}
-use Rattle.lines.specs.Reading.{then, numbersOf, known, wordOf, counted, request, asked, readOf}
+use Rattle.lines.specs.Reading.{then, numbersOf, known, wordOf, counted, operationIn, request, asked, readOf}
 use Rattle.lines.specs.Words.{kinds, word, operationOf}
 use Rattle.lines.proofs.JoinLaws.{joined-fields, fields-joined, absent-word, absent-numbers}
 use Rattle.lines.proofs.LineLaws.{then-ok, then-err, drop-nth, numbers-read, numbers-readable, numbers-offset}
@@ -88,11 +88,11 @@ word-first line t e = go (fields line) e
 
 pub read-asks : (line : List ℕ) (q : Request) → readOf line ≡ Ok q → Asks line q
 read-asks line q e =
-    let known = then-ok (wordOf (nth (fields line) 0)) _ q e in
-    let counts = then-ok (counted line (known .0)) _ q (known .2) in
-    let op = counts .0 in
-    let read = then-ok (numbersOf (kinds op) 1 line) _ q (counts .2) in
-    let enough = counted-ok line (known .0) op (counts .1) in
+    let found = then-ok (operationIn line) _ q e in
+    let op = found .0 in
+    let known = then-ok (wordOf (nth (fields line) 0)) _ op (found .1) in
+    let read = then-ok (numbersOf (kinds op) 1 line) _ q (found .2) in
+    let enough = counted-ok line (known .0) op (known .2) in
     let first : nth (fields line) 0 ≡ Some (word op) = word-ok (nth (fields line) 0) (known .0) (known .1) ∙ ap (λ o. Some (word o)) (enough .1) in
     let whole = word-first line (word op) first in
     let long : length (fields line) ≡ length (kinds op) + 1 = enough .0 ∙ ap (λ o. length (kinds o) + 1) (enough .1) in
@@ -114,8 +114,8 @@ asks-read line q a =
     ap fields (a .written) ∙ fields-joined (word op) (a .texts) (absent-word op) (absent-numbers (kinds op) (a .texts) (a .numbers) (a .meant)) in
     let read = numbers-readable (kinds op) 1 line (a .texts) (a .numbers) (a .meant) (ap (drop 1) whole) in
     let long : length (fields line) ≡ length (kinds op) + 1 = ap length whole ∙ omega (arith, read .1) in
-    ap (λ fs. then (wordOf (nth fs 0)) (λ op. then (counted line op) (asked line))) whole
-    ∙ ap (λ o. then (known o) (λ op. then (counted line op) (asked line))) (word-operation op)
+    ap (λ fs. then (then (wordOf (nth fs 0)) (counted line)) (asked line)) whole
+    ∙ ap (λ o. then (then (known o) (counted line)) (asked line)) (word-operation op)
     ∙ ap (λ r. then r (asked line)) (counted-same line op long)
     ∙ ap (λ r. then r (λ zs. Ok (request op zs))) (read .0)
     ∙ ap Ok (sym (a .taken))
@@ -123,13 +123,13 @@ asks-read line q a =
 pub read-broken : (line : List ℕ) (field at : ℕ) → readOf line ≡ Err (Number (Form field at)) → Broken line field at
 read-broken line field at e =
     ⊎-elim
-    (λ h. absurd (word-err (nth (fields line) 0) (Form field at) h))
-    (λ known.
-    ⊎-elim
-    (λ h. absurd (counted-err line (known .0) (Form field at) h))
-    (λ counts.
-    let op = counts .0 in
-    let enough = counted-ok line (known .0) op (counts .1) in
+    (λ h.
+    absurd (⊎-elim (word-err (nth (fields line) 0) (Form field at)) (λ k. counted-err line (k .0) (Form field at) (k .2))
+    (then-err (wordOf (nth (fields line) 0)) _ (Number (Form field at)) h)))
+    (λ found.
+    let op = found .0 in
+    let known = then-ok (wordOf (nth (fields line) 0)) _ op (found .1) in
+    let enough = counted-ok line (known .0) op (known .2) in
     ⊎-elim
     (λ h.
     let s = numbers-offset (kinds op) 1 line field at h in
@@ -145,9 +145,8 @@ read-broken line field at e =
       breaks = s .breaks;
     })
     (λ all. let f = all .2 in absurd (let z : _≡_ {A = ℕ} 0 1 = cc in omega arith))
-    (then-err (numbersOf (kinds op) 1 line) _ (Number (Form field at)) (counts .2)))
-    (then-err (counted line (known .0)) _ (Number (Form field at)) (known .2)))
-    (then-err (wordOf (nth (fields line) 0)) _ (Number (Form field at)) e)
+    (then-err (numbersOf (kinds op) 1 line) _ (Number (Form field at)) (found .2)))
+    (then-err (operationIn line) _ (Number (Form field at)) e)
 
 pub read-exactly : (line : List ℕ) (r : Result Request LineFault) → r ≡ readOf line → Read-exactly line r
 read-exactly line r e = subst (Read-exactly line) (sym e) (record { read = read-asks line; readable = asks-read line; offset = read-broken line })

@@ -68,6 +68,10 @@ request op zs = record { operation = op; first = getD zs 0 (pos 0); second = get
 abbrev pub asked : List ℕ → Operation → Result Request LineFault
 asked line op = then (numbersOf (kinds op) 1 line) (λ zs. Ok (request op zs))
 
+-- the operation of a line that has as many fields as it takes
+abbrev pub operationIn : List ℕ → Result Operation LineFault
+operationIn line = then (wordOf (nth (fields line) 0)) (counted line)
+
 -- a line's request, or its first fault
 abbrev pub readOf : List ℕ → Result Request LineFault
-readOf line = then (wordOf (nth (fields line) 0)) (λ op. then (counted line op) (asked line))
+readOf line = then (operationIn line) (asked line)

@@ -3,9 +3,7 @@ ghost use mathlib.Core.Path.{_≡_};
 ghost use lib.ListN.{length};
 ghost use Rattle.std.specs.shelf.Text.{sameBytes};
 ghost use Rattle.lines.specs.Asking.{Read-exactly};
-ghost use Rattle.lines.specs.Fields.{fields};
-ghost use Rattle.lines.specs.Parts.{nth};
-ghost use Rattle.lines.specs.Reading.{then, wordOf, counted, numberAt, asked, readOf};
+ghost use Rattle.lines.specs.Reading.{operationIn, numberAt, asked, readOf};
 ghost use Rattle.lines.specs.Words.{channel, value, kinds, operationOf};
 use crate::fault::LineFault;
 use crate::fault::LineFaultFromNumber;
@@ -53,7 +51,7 @@ fn fields_behind(operation: Operation) -> usize
 
 // The operation of a line that has as many fields as the operation takes.
 fn operation_of(line: &[u8]) -> Result<Operation, LineFault>
-    ensures { λ r. ⌜ r ≡ then (wordOf (nth (fields (now (line .entry))) 0)) (counted (now (line .entry))) ⌝ }
+    ensures { λ r. ⌜ r ≡ operationIn (now (line .entry)) ⌝ }
 {
     let Some(word) = field(line, 0) else {
         return Err(LineFault::Word);
