@@ -27,17 +27,17 @@ module _ (field : ℕ) (bytes : List ℕ) where
       let went = cond-ok (leb n 255) n (Limit field) x h in
       let low = leb-true n 255 (went .0) in
       record { form = subst (Numeral 3 bytes) (went .1) (numeral-form 3 bytes n e); limit = subst (λ k. k ≤ 255) (went .1) low }
-  channel-read (Err at) e x h = absurd (let z : _≡_ {A = ℕ} 0 1 = cc in omega arith)
+  channel-read (Err at) e x h = absurd (grind arith)
 
   channel-offset : (o : Result ℕ ℕ) → numeral 3 bytes ≡ o → (f at : ℕ) → limited field o ≡ Err (Form f at) → (f ≡ field) × Breaks Channel-form bytes at
   channel-offset (Ok n) e f at h =
       let went = cond-err (leb n 255) n (Limit field) (Form f at) h .1 in
-      absurd (let z : _≡_ {A = ℕ} 0 1 = cc in omega arith)
+      absurd (grind arith)
   channel-offset (Err k) e f at h = let same : k ≡ at = cc in (cc, subst (Breaks Channel-form bytes) (numeral-err 3 bytes k e ∙ same) (numeral-breaks 3 bytes (omega arith)))
 
   channel-over : (o : Result ℕ ℕ) → numeral 3 bytes ≡ o → (f : ℕ) → limited field o ≡ Err (Limit f) → (f ≡ field) × Channel-form bytes
   channel-over (Ok n) e f h = let same = cond-err (leb n 255) n (Limit field) (Limit f) h .1 in (cc, (n, numeral-form 3 bytes n e))
-  channel-over (Err k) e f h = absurd (let z : _≡_ {A = ℕ} 0 1 = cc in omega arith)
+  channel-over (Err k) e f h = absurd (grind arith)
 
   channel-reads : (begins : ℕ) → Reads Channel Channel-form (record { number = field; begins = begins; text = bytes }) (limited field (numeral 3 bytes))
   channel-reads begins =

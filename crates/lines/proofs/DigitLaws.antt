@@ -34,13 +34,13 @@ digit-some b d e = go (isDigit b) refl e
     go true h e =
         let same : d ≡ b - 48 = cc in
         (h, same, omega (arith, same, leb-true b 57 (and-parts _ _ h .1)))
-    go false h e = absurd (let z : _≡_ {A = ℕ} 0 1 = cc in omega arith)
+    go false h e = absurd (grind arith)
 
 pub digit-none : (b : ℕ) → digitOf b ≡ None → isDigit b ≡ false
 digit-none b e = go (isDigit b) refl e
   where
     go : (t : Bool) → isDigit b ≡ t → cond t (Some (b - 48)) None ≡ None → isDigit b ≡ false
-    go true h e = absurd (let z : _≡_ {A = ℕ} 0 1 = cc in omega arith)
+    go true h e = absurd (grind arith)
     go false h e = h
 
 -- one digit more

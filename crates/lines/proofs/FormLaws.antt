@@ -74,10 +74,10 @@ leading-nil (suc most) = refl
 -- which way a test went
 pub cond-ok : {A E : Type 0} (b : Bool) (x : A) (y : E) (n : A) → cond b (Ok x) (Err y) ≡ Ok n → (b ≡ true) × (x ≡ n)
 cond-ok true x y n e = (refl, cc)
-cond-ok false x y n e = absurd (let z : _≡_ {A = ℕ} 0 1 = cc in omega arith)
+cond-ok false x y n e = absurd (grind arith)
 
 pub cond-err : {A E : Type 0} (b : Bool) (x : A) (y e : E) → cond b (Ok x) (Err y) ≡ Err e → (b ≡ false) × (y ≡ e)
-cond-err true x y e h = absurd (let z : _≡_ {A = ℕ} 0 1 = cc in omega arith)
+cond-err true x y e h = absurd (grind arith)
 cond-err false x y e h = (refl, cc)
 
 module _ (most : ℕ) (bytes : List ℕ) (n : ℕ) (f : Numeral most bytes n) where

@@ -33,7 +33,7 @@ use Rattle.lines.proofs.ValueLaws.{value-reads-as}
 -- what was read before what
 pub then-ok : {A B E : Type 0} (r : Result A E) (go : A → Result B E) (y : B) → then r go ≡ Ok y → (x : A) × (r ≡ Ok x) × (go x ≡ Ok y)
 then-ok (Ok x) go y e = (x, refl, e)
-then-ok (Err d) go y e = absurd (let z : _≡_ {A = ℕ} 0 1 = cc in omega arith)
+then-ok (Err d) go y e = absurd (grind arith)
 
 pub then-err : {A B E : Type 0} (r : Result A E) (go : A → Result B E) (d : E) → then r go ≡ Err d → (r ≡ Err d) ⊎ ((x : A) × (r ≡ Ok x) × (go x ≡ Err d))
 then-err (Ok x) go d e = inr (x, refl, e)
@@ -42,10 +42,10 @@ then-err (Err c) go d e = let same : c ≡ d = cc in inl (ap Err same)
 -- a number and its fault, as the line has them
 raised-ok : {A : Type 0} (f : A → ℤ) (r : Result A NumberFault) (z : ℤ) → raised f r ≡ Ok z → (x : A) × (r ≡ Ok x) × (z ≡ f x)
 raised-ok f (Ok x) z e = (x, refl, cc)
-raised-ok f (Err d) z e = absurd (let z : _≡_ {A = ℕ} 0 1 = cc in omega arith)
+raised-ok f (Err d) z e = absurd (grind arith)
 
 raised-err : {A : Type 0} (f : A → ℤ) (r : Result A NumberFault) (d : NumberFault) → raised f r ≡ Err (Number d) → r ≡ Err d
-raised-err f (Ok x) d e = absurd (let z : _≡_ {A = ℕ} 0 1 = cc in omega arith)
+raised-err f (Ok x) d e = absurd (grind arith)
 raised-err f (Err c) d e = let same : c ≡ d = cc in ap Err same
 
 -- one number of a kind
@@ -72,7 +72,7 @@ module _ (k : Kind) (line : List ℕ) (n : ℕ) where
 
   field-ok : (o : Option (List ℕ)) → nth (fields line) n ≡ o → (z : ℤ) → present k n (mapped placed o) ≡ Ok z → (t : List ℕ) × (nth (fields line) n ≡ Some t) × Means k t z
   field-ok (Some t) here z e = (t, here, number-read k (placed t) z e)
-  field-ok None here z e = absurd (let z : _≡_ {A = ℕ} 0 1 = cc in omega arith)
+  field-ok None here z e = absurd (grind arith)
 
   pub field-read : (z : ℤ) → numberAt k line n ≡ Ok z → (t : List ℕ) × (nth (fields line) n ≡ Some t) × Means k t z
   field-read = field-ok (nth (fields line) n) refl
@@ -83,15 +83,15 @@ module _ (k : Kind) (line : List ℕ) (n : ℕ) where
   field-err : (o : Option (List ℕ)) → nth (fields line) n ≡ o → (field at : ℕ) → present k n (mapped placed o) ≡ Err (Number (Form field at))
       → (t : List ℕ) × (field ≡ n) × (nth (fields line) n ≡ Some t) × Breaks (Good k) t at
   field-err (Some t) here field at e = let h = number-offset k (placed t) field at e in (t, h .0, here, h .1)
-  field-err None here field at e = absurd (let z : _≡_ {A = ℕ} 0 1 = cc in omega arith)
+  field-err None here field at e = absurd (grind arith)
 
   pub field-offset : (field at : ℕ) → numberAt k line n ≡ Err (Number (Form field at)) → (t : List ℕ) × (field ≡ n) × (nth (fields line) n ≡ Some t) × Breaks (Good k) t at
   field-offset = field-err (nth (fields line) n) refl
 
 -- the element at a place, and what follows it
 pub drop-nth : {A : Type 0} (xs : List A) (n : ℕ) (x : A) (rest : List A) → drop n xs ≡ x ∷ rest → (nth xs n ≡ Some x) × (drop (n + 1) xs ≡ rest)
-drop-nth [] zero x rest e = absurd (let z : _≡_ {A = ℕ} 0 1 = cc in omega arith)
-drop-nth [] (suc n) x rest e = absurd (let z : _≡_ {A = ℕ} 0 1 = cc in omega arith)
+drop-nth [] zero x rest e = absurd (grind arith)
+drop-nth [] (suc n) x rest e = absurd (grind arith)
 drop-nth (y ∷ ys) zero x rest e = let head : y ≡ x = cc in (ap Some head, cc)
 drop-nth (y ∷ ys) (suc n) x rest e =
     let ih = drop-nth ys n x rest e in
@@ -101,7 +101,7 @@ drop-nth (y ∷ ys) (suc n) x rest e =
 -- all the numbers of a line
 pub numbers-read : (ks : List Kind) (n : ℕ) (line : List ℕ) (ts : List (List ℕ)) (zs : List ℤ) → numbersOf ks n line ≡ Ok zs → drop n (fields line) ≡ ts → length ts ≡ length ks → Numbers ks ts zs
 numbers-read [] n line [] [] e d l = tt
-numbers-read [] n line [] (z ∷ zs) e d l = absurd (let z : _≡_ {A = ℕ} 0 1 = cc in omega arith)
+numbers-read [] n line [] (z ∷ zs) e d l = absurd (grind arith)
 numbers-read [] n line (t ∷ ts) zs e d l = absurd (omega arith)
 numbers-read (k ∷ ks) n line [] zs e d l = absurd (omega arith)
 numbers-read (k ∷ ks) n line (t ∷ ts) zs e d l =
@@ -136,7 +136,7 @@ pub record Stands (ks : List Kind) (n : ℕ) (line : List ℕ) (field at : ℕ) 
   pub breaks : Breaks (Good kind) bytes at
 
 pub numbers-offset : (ks : List Kind) (n : ℕ) (line : List ℕ) (field at : ℕ) → numbersOf ks n line ≡ Err (Number (Form field at)) → Stands ks n line field at
-numbers-offset [] n line field at e = absurd (let z : _≡_ {A = ℕ} 0 1 = cc in omega arith)
+numbers-offset [] n line field at e = absurd (grind arith)
 numbers-offset (k ∷ ks) n line field at e =
     ⊎-elim
     (λ broken.
@@ -147,6 +147,6 @@ numbers-offset (k ∷ ks) n line field at e =
     (λ later.
     let h = numbers-offset ks (n + 1) line field at later in
     record { number = suc (h .number); kind = h .kind; bytes = h .bytes; behind = omega (arith, h .behind); takes = h .takes; there = h .there; breaks = h .breaks })
-    (λ all. let f = all .2 in absurd (let z : _≡_ {A = ℕ} 0 1 = cc in omega arith))
+    (λ all. let f = all .2 in absurd (grind arith))
     (then-err (numbersOf ks (n + 1) line) _ (Number (Form field at)) (first .2)))
     (then-err (numberAt k line n) _ (Number (Form field at)) e)

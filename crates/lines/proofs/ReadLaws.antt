@@ -31,31 +31,31 @@ use Rattle.lines.proofs.WordLaws.{word-operation, operation-word}
 -- a known word
 known-ok : (text : List ℕ) (o : Option Operation) → operationOf text ≡ o → (op : Operation) → known o ≡ Ok op → text ≡ word op
 known-ok text (Some found) e op h = let same : found ≡ op = cc in operation-word text op (e ∙ ap Some same)
-known-ok text None e op h = absurd (let z : _≡_ {A = ℕ} 0 1 = cc in omega arith)
+known-ok text None e op h = absurd (grind arith)
 
 word-ok : (o : Option (List ℕ)) (op : Operation) → wordOf o ≡ Ok op → o ≡ Some (word op)
 word-ok (Some text) op e = ap Some (known-ok text (operationOf text) refl op e)
-word-ok None op e = absurd (let z : _≡_ {A = ℕ} 0 1 = cc in omega arith)
+word-ok None op e = absurd (grind arith)
 
 -- neither the word nor the number of fields is a number's fault
 known-err : (o : Option Operation) (d : NumberFault) → known o ≡ Err (Number d) → ⊥
-known-err (Some op) d e = let z : _≡_ {A = ℕ} 0 1 = cc in omega arith
-known-err None d e = let z : _≡_ {A = ℕ} 0 1 = cc in omega arith
+known-err (Some op) d e = grind arith
+known-err None d e = grind arith
 
 word-err : (o : Option (List ℕ)) (d : NumberFault) → wordOf o ≡ Err (Number d) → ⊥
 word-err (Some text) d e = known-err (operationOf text) d e
-word-err None d e = let z : _≡_ {A = ℕ} 0 1 = cc in omega arith
+word-err None d e = grind arith
 
 -- which way two tests went
 both-kept : {A E : Type 0} (s t : Bool) (a b : E) (x y : A) → cond s (Err a) (cond t (Err b) (Ok x)) ≡ Ok y → (s ≡ false) × (t ≡ false) × (x ≡ y)
-both-kept true t a b x y e = absurd (let z : _≡_ {A = ℕ} 0 1 = cc in omega arith)
-both-kept false true a b x y e = absurd (let z : _≡_ {A = ℕ} 0 1 = cc in omega arith)
+both-kept true t a b x y e = absurd (grind arith)
+both-kept false true a b x y e = absurd (grind arith)
 both-kept false false a b x y e = (refl, refl, cc)
 
 one-failed : {A E : Type 0} (s t : Bool) (a b : E) (x : A) (d : E) → cond s (Err a) (cond t (Err b) (Ok x)) ≡ Err d → (a ≡ d) ⊎ (b ≡ d)
 one-failed true t a b x d e = inl (cc)
 one-failed false true a b x d e = inr (cc)
-one-failed false false a b x d e = absurd (let z : _≡_ {A = ℕ} 0 1 = cc in omega arith)
+one-failed false false a b x d e = absurd (grind arith)
 
 module _ (line : List ℕ) (op : Operation) where
   -- exactly as many fields as the operation takes
@@ -74,8 +74,8 @@ module _ (line : List ℕ) (op : Operation) where
   pub counted-err : (d : NumberFault) → counted line op ≡ Err (Number d) → ⊥
   counted-err d e =
       ⊎-elim
-      (λ h. let z : _≡_ {A = ℕ} 0 1 = cc in omega arith)
-      (λ h. let z : _≡_ {A = ℕ} 0 1 = cc in omega arith)
+      (λ h. grind arith)
+      (λ h. grind arith)
       (one-failed (ltb (length (fields line)) (length (kinds op) + 1)) (ltb (length (kinds op) + 1) (length (fields line))) _ _ op (Number d) e)
 
 -- the fields of a line are its word and the texts behind it
@@ -83,7 +83,7 @@ pub word-first : (line : List ℕ) (t : List ℕ) → nth (fields line) 0 ≡ So
 word-first line t e = go (fields line) e
   where
     go : (fs : List (List ℕ)) → nth fs 0 ≡ Some t → fs ≡ t ∷ drop 1 fs
-    go [] e = absurd (let z : _≡_ {A = ℕ} 0 1 = cc in omega arith)
+    go [] e = absurd (grind arith)
     go (f ∷ fs) e = let same : f ≡ t = cc in ap (λ x. x ∷ fs) same
 
 pub read-asks : (line : List ℕ) (q : Request) → readOf line ≡ Ok q → Asks line q
@@ -144,7 +144,7 @@ read-broken line field at e =
       there = s .there;
       breaks = s .breaks;
     })
-    (λ all. let f = all .2 in absurd (let z : _≡_ {A = ℕ} 0 1 = cc in omega arith))
+    (λ all. let f = all .2 in absurd (grind arith))
     (then-err (numbersOf (kinds op) 1 line) _ (Number (Form field at)) (found .2)))
     (then-err (operationIn line) _ (Number (Form field at)) e)
 

@@ -65,7 +65,7 @@ behind-form bytes k n f (b ∷ bs) e h = ⊎-elim (λ t. at-point t (numeral 3 b
     elsewhere : eqb b 46 ≡ false → ⊥
     elsewhere t =
         let broken : behind (worth (take k bytes)) k (b ∷ bs) ≡ Err k = cond-false (eqb b 46) _ _ t in
-        let z : _≡_ {A = ℕ} 0 1 = cc in omega arith
+        grind arith
 
     at-point : eqb b 46 ≡ true → (o : Result ℕ ℕ) → numeral 3 bs ≡ o → Size bytes n
     at-point t (Ok m) o =
@@ -85,12 +85,12 @@ behind-form bytes k n f (b ∷ bs) e h = ⊎-elim (λ t. at-point t (numeral 3 b
         })
     at-point t (Err m) o =
         let same : behind (worth (take k bytes)) k (b ∷ bs) ≡ Err (k + 1 + m) = cond-true (eqb b 46) _ _ t ∙ ap (pointed (worth (take k bytes)) k (length bs)) o in
-        absurd (let z : _≡_ {A = ℕ} 0 1 = cc in omega arith)
+        absurd (grind arith)
 
 pub size-form : (bytes : List ℕ) (n : ℕ) → sizeOf bytes ≡ Ok n → Size bytes n
 size-form bytes n e =
     ⊎-elim
-    (λ t. let none : sizeOf bytes ≡ Err 0 = cond-true (eqb (leading 6 bytes) 0) _ _ t in absurd (let z : _≡_ {A = ℕ} 0 1 = cc in omega arith))
+    (λ t. let none : sizeOf bytes ≡ Err 0 = cond-true (eqb (leading 6 bytes) 0) _ _ t in absurd (grind arith))
     (λ t.
     let k = leading 6 bytes in
     let some : 1 ≤ leading 6 bytes = let ne = eqb-false (leading 6 bytes) 0 t in omega (arith, ne) in
@@ -107,7 +107,7 @@ abbrev pub far : List ℕ → ℕ
 far text = cond (eqb (leading 6 text) 0) 0 (far-behind (leading 6 text) (drop (leading 6 text) text))
 
 behind-err : (w k : ℕ) (rest : List ℕ) (at : ℕ) → behind w k rest ≡ Err at → far-behind k rest ≡ at
-behind-err w k [] at e = absurd (let z : _≡_ {A = ℕ} 0 1 = cc in omega arith)
+behind-err w k [] at e = absurd (grind arith)
 behind-err w k (b ∷ bs) at e = ⊎-elim (λ t. at-point t (numeral 3 bs) refl) elsewhere (cases-bool (eqb b 46))
   where
     elsewhere : eqb b 46 ≡ false → far-behind k (b ∷ bs) ≡ at
@@ -119,7 +119,7 @@ behind-err w k (b ∷ bs) at e = ⊎-elim (λ t. at-point t (numeral 3 bs) refl)
     at-point : eqb b 46 ≡ true → (o : Result ℕ ℕ) → numeral 3 bs ≡ o → far-behind k (b ∷ bs) ≡ at
     at-point t (Ok m) o =
         let same : behind w k (b ∷ bs) ≡ Ok (w * 1000 + m * 10 ^ (3 - length bs)) = cond-true (eqb b 46) _ _ t ∙ ap (pointed w k (length bs)) o in
-        absurd (let z : _≡_ {A = ℕ} 0 1 = cc in omega arith)
+        absurd (grind arith)
     at-point t (Err m) o =
         let broken : behind w k (b ∷ bs) ≡ Err (k + 1 + m) = cond-true (eqb b 46) _ _ t ∙ ap (pointed w k (length bs)) o in
         let same : k + 1 + m ≡ at = cc in

@@ -25,7 +25,7 @@ pub size-first : (rest : List ℕ) (n : ℕ) → Size (45 ∷ rest) n → ⊥
 size-first rest n s =
     let read = form-size (45 ∷ rest) n s in
     let broken : sizeOf (45 ∷ rest) ≡ Err 0 = refl in
-    let z : _≡_ {A = ℕ} 0 1 = cc in omega arith
+    grind arith
 
 -- no minus stands in front
 abbrev Unsigned : List ℕ → Type 0
@@ -34,7 +34,7 @@ Unsigned bytes = (rest : List ℕ) → bytes ≡ 45 ∷ rest → ⊥
 module _ (field : ℕ) (bytes : List ℕ) (unsigned : Unsigned bytes) where
   plus-read : (o : Result ℕ ℕ) → sizeOf bytes ≡ o → (z : ℤ) → plus field o ≡ Ok z → Value bytes z
   plus-read (Ok n) e z h = inl (record { thousandths = n; form = size-form bytes n e; worth = cc })
-  plus-read (Err at) e z h = absurd (let z : _≡_ {A = ℕ} 0 1 = cc in omega arith)
+  plus-read (Err at) e z h = absurd (grind arith)
 
   plus-longest : (at : ℕ) → Breaks Size-form bytes at → (k : ℕ) → k ≤ length bytes → Begun Value-form bytes k → k ≤ at
   plus-longest at b k le (more, (z, inl v)) = b .longest k le (more, (v .thousandths, v .form))
@@ -55,12 +55,12 @@ module _ (field : ℕ) (bytes : List ℕ) (unsigned : Unsigned bytes) where
       }
 
   plus-offset : (o : Result ℕ ℕ) → sizeOf bytes ≡ o → (f at : ℕ) → plus field o ≡ Err (Form f at) → (f ≡ field) × Breaks Value-form bytes at
-  plus-offset (Ok n) e f at h = absurd (let z : _≡_ {A = ℕ} 0 1 = cc in omega arith)
+  plus-offset (Ok n) e f at h = absurd (grind arith)
   plus-offset (Err k) e f at h = let same : k ≡ at = cc in (cc, subst (Breaks Value-form bytes) same (plus-breaks k (size-breaks bytes k e)))
 
   plus-over : (o : Result ℕ ℕ) (f : ℕ) → plus field o ≡ Err (Limit f) → (f ≡ field) × Value-form bytes
-  plus-over (Ok n) f h = absurd (let z : _≡_ {A = ℕ} 0 1 = cc in omega arith)
-  plus-over (Err k) f h = absurd (let z : _≡_ {A = ℕ} 0 1 = cc in omega arith)
+  plus-over (Ok n) f h = absurd (grind arith)
+  plus-over (Err k) f h = absurd (grind arith)
 
   plus-readable : (z : ℤ) → Value bytes z → plus field (sizeOf bytes) ≡ Ok z
   plus-readable z (inl v) = ap (plus field) (form-size bytes (v .thousandths) (v .form)) ∙ ap Ok (sym (v .worth))
@@ -72,7 +72,7 @@ module _ (field : ℕ) (bytes : List ℕ) (unsigned : Unsigned bytes) where
 module _ (field : ℕ) (rest : List ℕ) where
   minus-read : (o : Result ℕ ℕ) → sizeOf rest ≡ o → (z : ℤ) → minus field o ≡ Ok z → Value (45 ∷ rest) z
   minus-read (Ok n) e z h = inr (record { rest = rest; thousandths = n; form = size-form rest n e; written = refl; worth = cc })
-  minus-read (Err at) e z h = absurd (let z : _≡_ {A = ℕ} 0 1 = cc in omega arith)
+  minus-read (Err at) e z h = absurd (grind arith)
 
   minus-longest : (at : ℕ) → Breaks Size-form rest at → (k : ℕ) → k ≤ length (45 ∷ rest) → Begun Value-form (45 ∷ rest) k → k ≤ suc at
   minus-longest at b zero le v = omega arith
@@ -92,14 +92,14 @@ module _ (field : ℕ) (rest : List ℕ) where
       }
 
   minus-offset : (o : Result ℕ ℕ) → sizeOf rest ≡ o → (f at : ℕ) → minus field o ≡ Err (Form f at) → (f ≡ field) × Breaks Value-form (45 ∷ rest) at
-  minus-offset (Ok n) e f at h = absurd (let z : _≡_ {A = ℕ} 0 1 = cc in omega arith)
+  minus-offset (Ok n) e f at h = absurd (grind arith)
   minus-offset (Err k) e f at h =
       let same : k + 1 ≡ at = cc in
       (cc, subst (Breaks Value-form (45 ∷ rest)) (sym (add-one k) ∙ same) (minus-breaks k (size-breaks rest k e)))
 
   minus-over : (o : Result ℕ ℕ) (f : ℕ) → minus field o ≡ Err (Limit f) → (f ≡ field) × Value-form (45 ∷ rest)
-  minus-over (Ok n) f h = absurd (let z : _≡_ {A = ℕ} 0 1 = cc in omega arith)
-  minus-over (Err k) f h = absurd (let z : _≡_ {A = ℕ} 0 1 = cc in omega arith)
+  minus-over (Ok n) f h = absurd (grind arith)
+  minus-over (Err k) f h = absurd (grind arith)
 
   minus-readable : (z : ℤ) → Value (45 ∷ rest) z → minus field (sizeOf rest) ≡ Ok z
   minus-readable z (inl v) = absurd (size-first rest (v .thousandths) (v .form))
@@ -111,7 +111,7 @@ module _ (field : ℕ) (rest : List ℕ) where
   minus-reads begins = record { read = minus-read (sizeOf rest) refl; readable = minus-readable; offset = minus-offset (sizeOf rest) refl; over = minus-over (sizeOf rest) }
 
 value-reads : (field begins : ℕ) (bytes : List ℕ) → Reads Value Value-form (record { number = field; begins = begins; text = bytes }) (signedOf field bytes)
-value-reads field begins [] = plus-reads field [] (λ rest e. let z : _≡_ {A = ℕ} 0 1 = cc in omega arith) begins
+value-reads field begins [] = plus-reads field [] (λ rest e. grind arith) begins
 value-reads field begins (b ∷ bs) =
     ⊎-elim
     (λ t.

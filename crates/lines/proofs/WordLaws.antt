@@ -36,4 +36,4 @@ tried text op found others go e =
 pub operation-word : (text : List ℕ) (op : Operation) → operationOf text ≡ Some op → text ≡ word op
 operation-word text op =
     tried text Put op _ (tried text Drop op _ (tried text Count op _ (tried text Push op _ (tried text Pop op _
-    (λ e. absurd (let z : _≡_ {A = ℕ} 0 1 = cc in omega arith))))))
+    (λ e. absurd (grind arith))))))
