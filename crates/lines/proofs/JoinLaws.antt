@@ -14,8 +14,8 @@ use Rattle.std.proofs.shelf.Lists.{append-assoc, length-append, length-push, ta
 use Rattle.std.proofs.shelf.Tests.{cond-both, eqb-true, eqb-false, and-parts, not-true}
 use Rattle.service.specs.declared.request.Operation.{Operation}
 use Rattle.service.specs.declared.request.Operation.the-variants.{Put, Drop, Count, Push, Pop}
-use Rattle.lines.specs.Asking.{joined, Means, Numbers}
-use Rattle.lines.specs.Fields.{semicolon, fields}
+use Rattle.lines.specs.Asking.{Means, Numbers}
+use Rattle.lines.specs.Fields.{semicolon, fields, joined, Parted}
 use Rattle.lines.specs.Forms.{text, Numeral, Size}
 use Rattle.lines.specs.Parts.{parts, onto, First, Absent}
 use Rattle.lines.specs.Words.{Kind, channel, value, word}
@@ -40,6 +40,28 @@ joined-fields (b ∷ bs) =
     (λ e. let same : b ≡ semicolon = eqb-true b semicolon e in joined-empty (fields bs) some ∙ ap (λ l. semicolon ∷ l) ih ∙ ap (λ x. x ∷ bs) (sym same))
     (λ e. joined-onto b (fields bs) some ∙ ap (λ l. b ∷ l) ih)
 
+-- texts without a semicolon
+absent-nil : Absent semicolon []
+absent-nil k lt e = omega arith
+
+absent-cons : (b : ℕ) (bs : List ℕ) → (b ≡ semicolon → ⊥) → Absent semicolon bs → Absent semicolon (b ∷ bs)
+absent-cons b bs ne none zero lt e = ne e
+absent-cons b bs ne none (suc k) lt e = none k (omega arith) e
+
+absent-onto : (b : ℕ) (ps : List (List ℕ)) → (b ≡ semicolon → ⊥) → All (Absent semicolon) ps → All (Absent semicolon) (onto b ps)
+absent-onto b [] ne all = (absent-cons b [] ne absent-nil, tt)
+absent-onto b (p ∷ ps) ne all = (absent-cons b p ne (all .0), all .1)
+
+absent-fields : (line : List ℕ) → All (Absent semicolon) (fields line)
+absent-fields [] = (absent-nil, tt)
+absent-fields (b ∷ bs) =
+    cond-both (eqb b semicolon) _ _ (All (Absent semicolon))
+    (λ e. (absent-nil, absent-fields bs))
+    (λ e. absent-onto b (fields bs) (eqb-false b semicolon e) (absent-fields bs))
+
+pub fields-parted : (line : List ℕ) → Parted line (fields line)
+fields-parted line = record { whole = joined-fields line; apart = absent-fields line }
+
 -- texts without a semicolon are the fields of the line that they make
 first-behind : (t rest : List ℕ) → Absent semicolon t → First semicolon (t ++ (semicolon ∷ rest)) (length t)
 first-behind t rest none =
@@ -60,14 +82,6 @@ fields-joined t (u ∷ us) none all =
     ∙ ap (λ l. l ∷ fields (drop (length t + 1) whole)) (take-at t (semicolon ∷ rest) (length t) refl)
     ∙ ap (λ l. t ∷ fields l) behind
     ∙ ap (λ l. t ∷ l) (fields-joined u us (all .0) (all .1))
-
--- texts without a semicolon
-absent-nil : Absent semicolon []
-absent-nil k lt e = omega arith
-
-absent-cons : (b : ℕ) (bs : List ℕ) → (b ≡ semicolon → ⊥) → Absent semicolon bs → Absent semicolon (b ∷ bs)
-absent-cons b bs ne none zero lt e = ne e
-absent-cons b bs ne none (suc k) lt e = none k (omega arith) e
 
 absent-append : (a b : List ℕ) → Absent semicolon a → Absent semicolon b → Absent semicolon (a ++ b)
 absent-append [] b na nb = nb

@@ -20,7 +20,7 @@ use Rattle.lines.specs.declared.fault.LineFault.{LineFault}
 use Rattle.lines.specs.declared.fault.LineFault.the-variants.{Word, Missing, Surplus, Number}
 use Rattle.lines.specs.declared.fault.NumberFault.{NumberFault}
 use Rattle.lines.specs.declared.fault.NumberFault.the-variants.{Form}
-use Rattle.lines.specs.Asking.{joined, Means, Good, Numbers, Asks, Broken, Read-exactly}
+use Rattle.lines.specs.Asking.{Means, Good, Numbers}
 use Rattle.lines.specs.Fields.{Place, fields, fieldOf}
 use Rattle.lines.specs.Forms.{Channel, Value, Channel-form, Value-form, Breaks, Reads}
 use Rattle.lines.specs.Numbers.{channelOf, valueOf}

@@ -19,8 +19,8 @@ use Rattle.lines.specs.declared.fault.LineFault.{LineFault}
 use Rattle.lines.specs.declared.fault.LineFault.the-variants.{Number}
 use Rattle.lines.specs.declared.fault.NumberFault.{NumberFault}
 use Rattle.lines.specs.declared.fault.NumberFault.the-variants.{Form}
-use Rattle.lines.specs.Asking.{joined, Asks, Broken, Read-exactly}
-use Rattle.lines.specs.Fields.{fields}
+use Rattle.lines.specs.Asking.{Asks, Broken, Read-exactly}
+use Rattle.lines.specs.Fields.{fields, joined}
 use Rattle.lines.specs.Parts.{nth}
 use Rattle.lines.specs.Reading.{then, numbersOf, known, wordOf, counted, operationIn, request, asked, readOf}
 use Rattle.lines.specs.Words.{kinds, word, operationOf}

@@ -1,6 +1,6 @@
 -- What a line asks for: an operation's word and the texts of its numbers, parted by semicolons. This is what a line
 -- means; nothing here says how it is read.
-use mathlib.Core.List.{List, [], _∷_, _++_}
+use mathlib.Core.List.{List, [], _∷_}
 use mathlib.Core.Path.{_≡_}
 use Prim.Native.Nat.{ℕ, _+_}
 use lib.IntN.{ℤ, pos}
@@ -12,17 +12,11 @@ use Rattle.service.specs.declared.request.Request.{Request}
 use Rattle.lines.specs.declared.fault.LineFault.{LineFault}
 use Rattle.lines.specs.declared.fault.LineFault.the-variants.{Number}
 use Rattle.lines.specs.declared.fault.NumberFault.the-variants.{Form}
-use Rattle.lines.specs.Fields.{semicolon, fields}
+use Rattle.lines.specs.Fields.{fields, joined}
 use Rattle.lines.specs.Forms.{Channel, Value, Channel-form, Value-form, Breaks}
 use Rattle.lines.specs.Parts.{nth}
 use Rattle.lines.specs.Reading.{request}
 use Rattle.lines.specs.Words.{Kind, channel, value, kinds, word}
-
--- texts with a semicolon between each two
-abbrev pub joined : List (List ℕ) → List ℕ
-joined [] = []
-joined (t ∷ []) = t
-joined (t ∷ u ∷ ts) = t ++ (semicolon ∷ joined (u ∷ ts))
 
 -- a text of a kind means a number
 abbrev pub Means : Kind → List ℕ → ℤ → Type 0

@@ -3,12 +3,13 @@ ghost use mathlib.Core.Path.{_≡_};
 ghost use Prim.Native.Nat.{_+_};
 ghost use lib.ListN.{length, take, drop};
 ghost use Rattle.std.specs.Options.{mapped, Cases};
-ghost use Rattle.lines.specs.Fields.{fields, fieldOf, shown};
+ghost use Rattle.lines.specs.Fields.{Parted, fields, fieldOf, shown};
 use crate::marks::cut;
 use crate::part::Field;
 
 // The field with this number, counted from 0, or none where the line has fewer.
 pub fn field(line: &[u8], number: usize) -> Option<Field<'_>>
+    ensures parted { λ _. ⌜ Parted (now (line .entry)) (fields (now (line .entry))) ⌝ }
     ensures finds { λ r. ⌜ mapped shown r ≡ fieldOf (now (line .entry)) number ⌝ }
     ensures part { λ r. ⌜ Cases r (Unit {0}) (λ f. now (f .bytes) ≡ take (length (now (f .bytes))) (drop (f .start) (now (line .entry)))) ⌝ }
 {

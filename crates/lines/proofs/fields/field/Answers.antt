@@ -6,12 +6,14 @@ use Rattle.lines.specs.Fields.{semicolon, fields}
 use Rattle.lines.specs.Parts.{nth, start, beside, rejoined}
 use Rattle.std.specs.declared.option.Option.the-variants.{Some}
 use Rattle.lines.proofs.FieldLaws.{field-found}
+use Rattle.lines.proofs.JoinLaws.{fields-parted}
 use Rattle.lines.proofs.PartLaws.{passed-more, passed-last, passed-part, passed-start, rejoined-part, beside-first}
 use Rattle.lines.proofs.fields.field.Needs as need
 
 pub returns-in-Break-rest : need.returns-in-Break-rest
 returns-in-Break-rest c =
     rw (c .from-residual .ensures) (record {
+      parted = fields-parted (c .args .line .now);
       finds = sym (ap (mapped _) (passed-last semicolon (c .args .line .now) (c .loop .rest .now) (c .cut .result .0 .now) (c .loop .start) (c .loop .counter) (c .args .number)
           (c .loop .inv) (c .cut .ensures .parts ∙ ap (beside semicolon (c .cut .result .0 .now)) (c .in-Break-rest .was tt)) (c .loop-test .taken)));
       part = tt;
@@ -34,6 +36,7 @@ returns c =
     let from : start (fields line) (c .args .number) ≡ c .loop .start =
     ap (start (fields line)) all ∙ passed-start semicolon line (c .loop .rest .now) (c .loop .start) (c .loop .counter) (c .loop .inv) in
     record {
+      parted = fields-parted line;
       finds = field-found line (c .args .number) (c .loop .start) bytes here from;
       part = rejoined-part semicolon bytes (c .cut-2 .result .1) ∙ ap (take (length bytes)) (sym (c .cut-2 .ensures .whole) ∙ c .loop .inv .here);
     }
