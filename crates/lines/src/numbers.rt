@@ -6,7 +6,7 @@ ghost use Rattle.std.specs.Results.{Cases};
 ghost use Rattle.lines.specs.Digits.{digitOf, leading, worth, numeral};
 ghost use Rattle.lines.specs.Fields.{shown};
 ghost use Rattle.lines.specs.Forms.{Channel, Channel-form, Value, Value-form, Reads};
-ghost use Rattle.lines.specs.Numbers.{channelOf, sizeOf, valueOf};
+ghost use Rattle.lines.specs.Numbers.{limited, channelOf, sizeOf, plus, minus, signedOf, valueOf};
 use crate::fault::NumberFault;
 use crate::part::Field;
 
@@ -95,20 +95,58 @@ fn thousandths(text: &[u8]) -> Result<u32, usize>
     }
 }
 
+// A channel: 1 to 3 digits, at most 255.
+fn channel_in(field: usize, text: &[u8]) -> Result<u8, NumberFault>
+    ensures { λ r. ⌜ r ≡ limited field (numeral 3 (now (text .entry))) ⌝ }
+{
+    match numeral_of(text, 3) {
+        Ok(number) if number <= 255 => Ok(number as u8),
+        Ok(_) => Err(NumberFault::Limit { field }),
+        Err(offset) => Err(NumberFault::Form { field, offset }),
+    }
+}
+
+fn positive(field: usize, size: Result<u32, usize>) -> Result<i32, NumberFault>
+    requires { ⌜ Cases size (λ n. n < 1_000_000_000) (λ _. Unit {0}) ⌝ }
+    ensures { λ r. ⌜ r ≡ plus field size ⌝ }
+{
+    match size {
+        Ok(thousandths) => Ok(thousandths as i32),
+        Err(offset) => Err(NumberFault::Form { field, offset }),
+    }
+}
+
+// The minus covers the whole number, and stands before the size's first byte.
+fn negative(field: usize, size: Result<u32, usize>) -> Result<i32, NumberFault>
+    requires { ⌜ Cases size (λ n. n < 1_000_000_000) (λ at. at < 2 ^ 63) ⌝ }
+    ensures { λ r. ⌜ r ≡ minus field size ⌝ }
+{
+    match size {
+        Ok(thousandths) => Ok(-(thousandths as i32)),
+        Err(at) => Err(NumberFault::Form {
+            field,
+            offset: at + 1,
+        }),
+    }
+}
+
+// A value: an optional minus, then its size.
+fn value_in(field: usize, text: &[u8]) -> Result<i32, NumberFault>
+    ensures { λ r. ⌜ r ≡ signedOf field (now (text .entry)) ⌝ }
+{
+    match text {
+        [b'-', digits @ ..] => negative(field, thousandths(digits)),
+        digits => positive(field, thousandths(digits)),
+    }
+}
+
 impl Field<'_> {
     // The channel that the field writes: 1 to 3 digits, at most 255.
     pub fn channel(self) -> Result<u8, NumberFault>
         ensures is { λ r. ⌜ r ≡ channelOf (shown (self .entry)) ⌝ }
         ensures reads { λ r. ⌜ Reads Channel Channel-form (shown (self .entry)) r ⌝ }
     {
-        match numeral_of(self.bytes, 3) {
-            Ok(number) if number <= 255 => Ok(number as u8),
-            Ok(_) => Err(NumberFault::Limit { field: self.number }),
-            Err(offset) => Err(NumberFault::Form {
-                field: self.number,
-                offset,
-            }),
-        }
+        channel_in(self.number, self.bytes)
     }
 
     // The value that the field writes, in signed thousandths: an optional minus, which covers the whole number,
@@ -117,19 +155,6 @@ impl Field<'_> {
         ensures is { λ r. ⌜ r ≡ valueOf (shown (self .entry)) ⌝ }
         ensures reads { λ r. ⌜ Reads Value Value-form (shown (self .entry)) r ⌝ }
     {
-        let field = self.number;
-        match self.bytes {
-            [b'-', digits @ ..] => match thousandths(digits) {
-                Ok(size) => Ok(-(size as i32)),
-                Err(at) => Err(NumberFault::Form {
-                    field,
-                    offset: at + 1,
-                }),
-            },
-            digits => match thousandths(digits) {
-                Ok(size) => Ok(size as i32),
-                Err(offset) => Err(NumberFault::Form { field, offset }),
-            },
-        }
+        value_in(self.number, self.bytes)
     }
 }
