@@ -1,5 +1,8 @@
 // Reads serial lines from standard input and says, line by line, what each one asks for in exact thousandths,
 // or what is wrong with it and where.
+ghost use mathlib.Core.Path.{_≡_};
+ghost use Rattle.std.specs.Vec.{made};
+ghost use Rattle.rack.specs.Tallies.{isRead, tallyOf};
 use lines::LineFaultDisplay;
 use lines::cut;
 use lines::read;
@@ -19,7 +22,9 @@ struct Tally {
 }
 
 // Says what one line asks for, or its fault; answers whether it was read.
-fn say(rt: &impl Print, number: usize, line: &[u8]) -> io::Result<bool> {
+fn say(rt: &impl Print, number: usize, line: &[u8]) -> io::Result<bool>
+    ensures { λ r. ⌜ made r (λ b. b ≡ isRead (now (line .entry))) ⌝ }
+{
     match read(line) {
         Ok(request) => {
             println!(rt, "{number}: {request}")?;
@@ -33,7 +38,9 @@ fn say(rt: &impl Print, number: usize, line: &[u8]) -> io::Result<bool> {
 }
 
 // Says each line of a text. A line feed at the very end begins no further line.
-fn say_all(rt: &impl Print, text: &[u8]) -> io::Result<Tally> {
+fn say_all(rt: &impl Print, text: &[u8]) -> io::Result<Tally>
+    ensures { λ r. ⌜ made r (λ t. t ≡ tallyOf (now (text .entry))) ⌝ }
+{
     let mut tally = Tally { read: 0, faulty: 0 };
     let mut rest = text;
     while !rest.is_empty() {
@@ -43,10 +50,10 @@ fn say_all(rt: &impl Print, text: &[u8]) -> io::Result<Tally> {
         } else {
             tally.faulty += 1;
         }
-        let Some(more) = after else {
-            break;
+        rest = match after {
+            Some(more) => more,
+            None => &[],
         };
-        rest = more;
     }
     Ok(tally)
 }

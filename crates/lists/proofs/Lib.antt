@@ -1,0 +1,9 @@
+pub mod Membership
+pub mod Difference
+pub mod Merging
+pub mod Beginnings
+pub mod Ranges
+pub mod Held
+pub mod Splits
+pub mod Names
+pub mod Steps

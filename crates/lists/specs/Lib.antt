@@ -1,0 +1,9 @@
+pub mod Orders
+pub mod Membership
+pub mod Difference
+pub mod Merging
+pub mod Beginnings
+pub mod Ranges
+pub mod Held
+pub mod Splits
+pub mod Laws
