@@ -19,17 +19,9 @@ ended-more p [] some = absurd (omega arith)
 ended-more [] (q ∷ ps) some = refl
 ended-more (b ∷ bs) (q ∷ ps) some = refl
 
-ended-last : (p : List ℕ) → 0 < length p → ended (p ∷ []) ≡ p ∷ []
-ended-last [] some = absurd (omega arith)
-ended-last (b ∷ bs) some = refl
-
 -- a line with a line feed behind it, and the lines that follow
 pub lines-more : (text line more : List ℕ) → parts 10 text ≡ line ∷ parts 10 more → linesOf text ≡ line ∷ linesOf more
 lines-more text line more e = ap ended e ∙ ended-more line (parts 10 more) (parts-some 10 more)
-
--- the last line, with none behind it
-pub lines-last : (text line : List ℕ) → parts 10 text ≡ line ∷ [] → 0 < length line → linesOf text ≡ line ∷ []
-lines-last text line e some = ap ended e ∙ ended-last line some
 
 abbrev isFaulty : List ℕ → Bool
 isFaulty line = not (isRead line)
