@@ -1,17 +1,16 @@
 -- The place at which the form of a value without its sign breaks is the length of its longest good beginning.
 use mathlib.Core.Path.{_≡_, refl, sym, ap, subst, _∙_}
-use mathlib.Core.Bool.{cond}
 use mathlib.Core.List.{List, [], _∷_, _++_}
 use mathlib.Core.Logic.{_⊎_, inl, inr, ⊎-elim}
-use Prim.Native.Nat.{ℕ, zero, suc, _+_, _<_, _≤_}
+use Prim.Native.Nat.{ℕ, _+_, _<_, _≤_}
 use native.Mathlib.Omega.{arith}
 use lib.Dec.{eqb}
 use lib.ListN.{length, take, drop}
 use Rattle.std.specs.declared.result.Result.the-variants.{Err}
 use Rattle.std.proofs.shelf.Lists.{append-assoc, length-append, length-take-le, length-drop, take-at, drop-at, take-append-drop}
-use Rattle.std.proofs.shelf.Tests.{cond-true, cond-false, cond-both, cases-bool, cases-lt, ne-eqb, eqb-true, eqb-false}
+use Rattle.std.proofs.shelf.Tests.{cond-false, cond-both, cases-lt, ne-eqb, eqb-true, eqb-false}
 use Rattle.lines.specs.Digits.{leading, worth}
-use Rattle.lines.specs.Forms.{Numeral, Whole, Pointed, Size, Begun, Breaks}
+use Rattle.lines.specs.Forms.{Numeral, Whole, Pointed, Begun, Breaks}
 use Rattle.lines.specs.Numbers.{sizeOf}
 use Rattle.lines.proofs.DigitLaws.{leading-length}
 use Rattle.lines.proofs.FormLaws.{front-form, digits-begin, leading-begun, leading-swap, numeral-whole, numeral-length}

@@ -3,7 +3,7 @@ use mathlib.Core.Path.{_≡_, refl, sym, ap, _∙_}
 use mathlib.Core.Bool.{Bool, true, false, cond, _&&_}
 use mathlib.Core.List.{List, [], _∷_, map}
 use Prim.Native.Nat.{ℕ, zero, suc, _+_, _-_, _*_, _^_, _<_, _≤_}
-use native.Mathlib.Nat.{pow-suc, sub-zero, zero-add}
+use native.Mathlib.Nat.{pow-suc}
 use native.Mathlib.Numerals.{add-one}
 use native.Mathlib.Omega.{arith}
 use lib.Dec.{ltb, eqb}
@@ -55,16 +55,7 @@ pub record Read (most : ℕ) (text : List ℕ) (i v : ℕ) : Type 0 where
   pub value : v ≡ worth (take i text)
   pub small : v < 10 ^ i
 
-pub read-none : (most : ℕ) (text : List ℕ) → Read most text 0 0
-read-none most text = record { few = omega arith; count = ap (λ k. leading k text) (sym (sub-zero most)) ∙ sym (zero-add _); value = refl; small = omega arith }
-
 module _ (most : ℕ) (text : List ℕ) (i v : ℕ) (r : Read most text i v) where
-  -- all that may be read
-  pub read-full : i ≡ most → leading most text ≡ i
-  read-full e =
-      let none : most - i ≡ 0 = omega arith in
-      r .count ∙ ap (λ k. i + leading k (drop i text)) none ∙ omega arith
-
   -- all there is
   pub read-end : length text ≤ i → leading most text ≡ i
   read-end le = omega (arith, r .count, leading-length (most - i) (drop i text), length-drop i text)

@@ -2,12 +2,12 @@
 use mathlib.Core.Path.{_≡_, sym, ap, _∙_}
 use mathlib.Core.List.{List}
 use Prim.Native.Nat.{ℕ, _+_, _<_, _≤_}
-use native.Mathlib.Omega.{arith}
 use lib.ListN.{length, getD, drop}
 use Rattle.std.specs.Options.{mapped}
 use Rattle.std.specs.declared.option.Option.the-variants.{Some}
 use Rattle.std.proofs.shelf.Lists.{at-drop-more, at-drop-all}
-use Rattle.lines.specs.Parts.{nth, start}
+use Rattle.std.specs.shelf.Maps.{nth}
+use Rattle.lines.specs.Parts.{start}
 use Rattle.lines.specs.Fields.{semicolon, fields, fieldOf}
 use Rattle.lines.proofs.PartLaws.{length-parts-mark, length-parts-other}
 

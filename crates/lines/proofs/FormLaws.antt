@@ -2,7 +2,7 @@
 use mathlib.Core.Path.{_≡_, refl, sym, ap, subst, _∙_}
 use mathlib.Core.Bool.{Bool, true, false, cond, _&&_}
 use mathlib.Core.List.{List, [], _∷_, _++_, map}
-use mathlib.Core.Logic.{_⊎_, inl, inr, ⊎-elim}
+use mathlib.Core.Logic.{_⊎_, ⊎-elim}
 use Prim.Native.Nat.{ℕ, zero, suc, _+_, _-_, _<_, _≤_}
 use native.Mathlib.Nat.{zero-add, add-zero, suc-add, sub-zero}
 use native.Mathlib.Omega.{arith}
@@ -11,7 +11,7 @@ use lib.ListN.{length, take, drop}
 use Rattle.std.specs.declared.result.Result.the-variants.{Ok, Err}
 use Rattle.std.specs.shelf.Digits.{number, Under}
 use Rattle.std.proofs.shelf.Lists.{append-nil, length-append, length-map, length-take-le, take-all, take-append-drop}
-use Rattle.std.proofs.shelf.Tests.{cond-true, cond-false, cond-both, cases-bool, and-from, and-parts, le-leb, leb-true, ltb-true, eqb-true, true≢false}
+use Rattle.std.proofs.shelf.Tests.{cond-true, cond-false, cases-bool, and-from, and-parts, le-leb, leb-true, ltb-true, eqb-true}
 use Rattle.lines.specs.Digits.{isDigit, leading, worth, numeral}
 use Rattle.lines.specs.Forms.{text, Numeral, Begun, Breaks}
 use Rattle.lines.proofs.DigitLaws.{leading-length, leading-most, numeral-all}

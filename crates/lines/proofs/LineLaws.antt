@@ -1,11 +1,9 @@
 -- A line is read as a request exactly when it has that request's form.
 use mathlib.Core.Path.{_≡_, refl, sym, ap, subst, _∙_}
-use mathlib.Core.Bool.{cond}
-use mathlib.Core.List.{List, [], _∷_, _++_}
+use mathlib.Core.List.{List, [], _∷_}
 use mathlib.Core.Logic.{_⊎_, inl, inr, ⊎-elim}
-use Prim.Native.Nat.{ℕ, zero, suc, _+_, _<_, _≤_}
+use Prim.Native.Nat.{ℕ, zero, suc, _+_}
 use native.Mathlib.Omega.{arith}
-use lib.Dec.{ltb}
 use lib.IntN.{ℤ, pos}
 use lib.ListN.{length, drop}
 use Rattle.std.specs.Options.{mapped}
@@ -13,20 +11,17 @@ use Rattle.std.specs.declared.option.Option.{Option}
 use Rattle.std.specs.declared.option.Option.the-variants.{Some, None}
 use Rattle.std.specs.declared.result.Result.{Result}
 use Rattle.std.specs.declared.result.Result.the-variants.{Ok, Err}
-use Rattle.std.proofs.shelf.Tests.{cond-true, cond-false, cases-bool, ltb-true, ltb-false, le-ltb}
-use Rattle.service.specs.declared.request.Operation.{Operation}
-use Rattle.service.specs.declared.request.Request.{Request}
-use Rattle.lines.specs.declared.fault.LineFault.{LineFault}
-use Rattle.lines.specs.declared.fault.LineFault.the-variants.{Word, Missing, Surplus, Number}
+use Rattle.lines.specs.declared.fault.LineFault.the-variants.{Number}
 use Rattle.lines.specs.declared.fault.NumberFault.{NumberFault}
 use Rattle.lines.specs.declared.fault.NumberFault.the-variants.{Form}
 use Rattle.lines.specs.Asking.{Means, Good, Numbers}
-use Rattle.lines.specs.Fields.{Place, fields, fieldOf}
-use Rattle.lines.specs.Forms.{Channel, Value, Channel-form, Value-form, Breaks, Reads}
+use Rattle.lines.specs.Fields.{Place, fields}
+use Rattle.lines.specs.Forms.{Value, Breaks}
 use Rattle.lines.specs.Numbers.{channelOf, valueOf}
-use Rattle.lines.specs.Parts.{nth, start}
-use Rattle.lines.specs.Reading.{then, raised, numberOf, present, numberAt, numbersOf, known, wordOf, counted, request, asked, readOf}
-use Rattle.lines.specs.Words.{Kind, channel, value, kinds, word, operationOf}
+use Rattle.std.specs.shelf.Maps.{nth}
+use Rattle.lines.specs.Parts.{start}
+use Rattle.lines.specs.Reading.{then, raised, numberOf, present, numberAt, numbersOf}
+use Rattle.lines.specs.Words.{Kind, channel, value}
 use Rattle.lines.proofs.ChannelLaws.{channel-reads-as}
 use Rattle.lines.proofs.ValueLaws.{value-reads-as}
 

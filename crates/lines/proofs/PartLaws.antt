@@ -1,19 +1,19 @@
 -- Laws of a text cut at marks.
 use mathlib.Core.Path.{_≡_, refl, sym, ap, _∙_}
-use mathlib.Core.Bool.{cond}
 use mathlib.Core.List.{List, [], _∷_, _++_}
 use Prim.Native.Nat.{ℕ, zero, suc, _+_, _-_, _<_, _≤_}
-use native.Mathlib.Nat.{zero-add, add-zero, add-assoc}
+use native.Mathlib.Nat.{add-zero, add-assoc}
 use native.Mathlib.Numerals.{add-one}
 use native.Mathlib.Omega.{arith}
 use lib.Dec.{eqb}
-use lib.ListN.{length, getD, take, drop}
+use lib.ListN.{length, take, drop}
 use denote.Ref.{RefT, now}
 use Rattle.std.specs.declared.option.Option.{Option}
 use Rattle.std.specs.declared.option.Option.the-variants.{Some, None}
 use Rattle.std.proofs.shelf.Lists.{take-all, take-at, take-append-drop, drop-more, drop-at, drop-drop, append-assoc, length-append, length-drop, length-push}
 use Rattle.std.proofs.shelf.Tests.{cond-true, cond-false, cond-both, eq-eqb, ne-eqb}
-use Rattle.lines.specs.Parts.{parts, onto, nth, start, beside, rejoined, First, Absent}
+use Rattle.std.specs.shelf.Maps.{nth}
+use Rattle.lines.specs.Parts.{parts, onto, start, beside, rejoined, First, Absent}
 
 -- with a first mark, the text before it is the first part, and the others are those of the text behind it
 pub parts-first : (mark : ℕ) (text : List ℕ) (at : ℕ) → First mark text at → parts mark text ≡ take at text ∷ parts mark (drop (at + 1) text)
@@ -45,10 +45,6 @@ pub record Passed (mark : ℕ) (text rest : List ℕ) (at count : ℕ) : Type 0 
   pub within : at ≤ length text
   pub others : (n : ℕ) → nth (parts mark text) (count + n) ≡ nth (parts mark rest) n
   pub begins : (n : ℕ) → start (parts mark text) (count + n) ≡ at + start (parts mark rest) n
-
-pub passed-none : (mark : ℕ) (text : List ℕ) → Passed mark text text 0 0
-passed-none mark text =
-    record { here = refl; within = omega arith; others = λ n. ap (nth (parts mark text)) (zero-add n); begins = λ n. ap (start (parts mark text)) (zero-add n) ∙ sym (zero-add _) }
 
 pub passed-more : (mark : ℕ) (text rest p more : List ℕ) (at count : ℕ) → Passed mark text rest at count
     → parts mark rest ≡ p ∷ parts mark more → rest ≡ p ++ (mark ∷ more) → Passed mark text more (at + (length p + 1)) (count + 1)

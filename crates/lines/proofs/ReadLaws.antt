@@ -3,8 +3,7 @@ use mathlib.Core.Path.{_≡_, refl, sym, ap, subst, _∙_}
 use mathlib.Core.Bool.{Bool, true, false, cond}
 use mathlib.Core.List.{List, [], _∷_}
 use mathlib.Core.Logic.{_⊎_, inl, inr, ⊎-elim}
-use Prim.Native.Nat.{ℕ, _+_, _≤_}
-use native.Mathlib.Numerals.{add-one}
+use Prim.Native.Nat.{ℕ, _+_}
 use native.Mathlib.Omega.{arith}
 use lib.Dec.{ltb}
 use lib.ListN.{length, drop}
@@ -12,7 +11,7 @@ use Rattle.std.specs.declared.option.Option.{Option}
 use Rattle.std.specs.declared.option.Option.the-variants.{Some, None}
 use Rattle.std.specs.declared.result.Result.{Result}
 use Rattle.std.specs.declared.result.Result.the-variants.{Ok, Err}
-use Rattle.std.proofs.shelf.Tests.{cond-true, cond-false, cases-bool, ltb-false, le-ltb}
+use Rattle.std.proofs.shelf.Tests.{cond-false, ltb-false, le-ltb}
 use Rattle.service.specs.declared.request.Operation.{Operation}
 use Rattle.service.specs.declared.request.Request.{Request}
 use Rattle.lines.specs.declared.fault.LineFault.{LineFault}
@@ -21,11 +20,11 @@ use Rattle.lines.specs.declared.fault.NumberFault.{NumberFault}
 use Rattle.lines.specs.declared.fault.NumberFault.the-variants.{Form}
 use Rattle.lines.specs.Asking.{Asks, Broken, Read-exactly}
 use Rattle.lines.specs.Fields.{fields, joined}
-use Rattle.lines.specs.Parts.{nth}
+use Rattle.std.specs.shelf.Maps.{nth}
 use Rattle.lines.specs.Reading.{then, numbersOf, known, wordOf, counted, operationIn, request, asked, readOf}
 use Rattle.lines.specs.Words.{kinds, word, operationOf}
 use Rattle.lines.proofs.JoinLaws.{joined-fields, fields-joined, absent-word, absent-numbers}
-use Rattle.lines.proofs.LineLaws.{then-ok, then-err, drop-nth, numbers-read, numbers-readable, numbers-offset}
+use Rattle.lines.proofs.LineLaws.{then-ok, then-err, numbers-read, numbers-readable, numbers-offset}
 use Rattle.lines.proofs.WordLaws.{word-operation, operation-word}
 
 -- a known word

@@ -1,22 +1,21 @@
 -- A value without its sign is read exactly when it has that form, and how far a text follows it.
 use mathlib.Core.Path.{_≡_, refl, sym, ap, subst, _∙_}
-use mathlib.Core.Bool.{Bool, true, false, cond, _&&_}
+use mathlib.Core.Bool.{true, false, cond}
 use mathlib.Core.List.{List, [], _∷_, _++_}
 use mathlib.Core.Logic.{_⊎_, inl, inr, ⊎-elim}
-use Prim.Native.Nat.{ℕ, zero, suc, _+_, _-_, _*_, _^_, _<_, _≤_}
+use Prim.Native.Nat.{ℕ, zero, suc, _+_, _-_, _*_, _^_, _≤_}
 use native.Mathlib.Nat.{add-zero}
 use native.Mathlib.Omega.{arith}
-use lib.Dec.{leb, ltb, eqb}
+use lib.Dec.{eqb}
 use lib.ListN.{length, take, drop}
 use Rattle.std.specs.declared.result.Result.{Result}
 use Rattle.std.specs.declared.result.Result.the-variants.{Ok, Err}
-use Rattle.std.proofs.shelf.Lists.{append-nil, append-assoc, length-append, length-take-le, length-drop, take-all, take-at, drop-at, take-rest, take-append-drop}
-use Rattle.std.proofs.shelf.Tests.{cond-true, cond-false, cases-bool, cases-eq, cases-lt, eq-eqb, ne-eqb, eqb-true, eqb-false}
+use Rattle.std.proofs.shelf.Lists.{append-nil, length-drop, take-all, take-at, drop-at, take-rest, take-append-drop}
+use Rattle.std.proofs.shelf.Tests.{cond-true, cond-false, cases-bool, eqb-true, eqb-false}
 use Rattle.lines.specs.Digits.{leading, worth, numeral}
-use Rattle.lines.specs.Forms.{Numeral, Whole, Pointed, Size, Begun, Breaks}
+use Rattle.lines.specs.Forms.{Numeral, Size}
 use Rattle.lines.specs.Numbers.{behind, pointed, sizeOf}
-use Rattle.lines.proofs.DigitLaws.{leading-length}
-use Rattle.lines.proofs.FormLaws.{front-form, digits-begin, leading-begun, leading-swap, numeral-form, form-numeral, numeral-leading, numeral-whole, numeral-worth, numeral-length, cond-err}
+use Rattle.lines.proofs.FormLaws.{front-form, numeral-form, form-numeral, numeral-leading, numeral-whole, numeral-worth, numeral-length}
 use Rattle.lines.proofs.ChannelLaws.{numeral-err}
 use Rattle.lines.proofs.NumberLaws.{from, size-behind, behind-empty}
 

@@ -1,6 +1,5 @@
 -- A value is read exactly when it has a value's form, its sign included.
 use mathlib.Core.Path.{_≡_, refl, sym, ap, subst, _∙_}
-use mathlib.Core.Bool.{cond}
 use mathlib.Core.List.{List, [], _∷_, _++_}
 use mathlib.Core.Logic.{_⊎_, inl, inr, ⊎-elim}
 use Prim.Native.Nat.{ℕ, zero, suc, _+_, _≤_}
@@ -11,11 +10,11 @@ use lib.IntN.{ℤ, pos, negℤ}
 use lib.ListN.{length, take}
 use Rattle.std.specs.declared.result.Result.{Result}
 use Rattle.std.specs.declared.result.Result.the-variants.{Ok, Err}
-use Rattle.std.proofs.shelf.Tests.{cond-true, cond-false, cases-bool, eqb-true, eqb-false, eq-eqb, ne-eqb}
+use Rattle.std.proofs.shelf.Tests.{cond-true, cond-false, cases-bool, eqb-true, eqb-false}
 use Rattle.lines.specs.declared.fault.NumberFault.{NumberFault}
 use Rattle.lines.specs.declared.fault.NumberFault.the-variants.{Form, Limit}
 use Rattle.lines.specs.Fields.{Place}
-use Rattle.lines.specs.Forms.{Size, Plain, Negative, Value, Value-form, Begun, Breaks, Reads}
+use Rattle.lines.specs.Forms.{Size, Value, Value-form, Begun, Breaks, Reads}
 use Rattle.lines.specs.Numbers.{sizeOf, plus, minus, signedOf, valueOf}
 use Rattle.lines.proofs.BreakLaws.{size-breaks}
 use Rattle.lines.proofs.SizeLaws.{Size-form, form-size, size-form}

@@ -14,7 +14,7 @@ use Rattle.lines.specs.declared.fault.LineFault.the-variants.{Number}
 use Rattle.lines.specs.declared.fault.NumberFault.the-variants.{Form}
 use Rattle.lines.specs.Fields.{fields, joined}
 use Rattle.lines.specs.Forms.{Channel, Value, Channel-form, Value-form, Breaks}
-use Rattle.lines.specs.Parts.{nth}
+use Rattle.std.specs.shelf.Maps.{nth}
 use Rattle.lines.specs.Reading.{request}
 use Rattle.lines.specs.Words.{Kind, channel, value, kinds, word}
 

@@ -7,7 +7,8 @@ use Rattle.std.specs.Options.{mapped}
 use Rattle.std.specs.shelf.Lists.{All}
 use Rattle.std.specs.declared.option.Option.{Option}
 use Rattle.lines.specs.declared.part.Field.{Field}
-use Rattle.lines.specs.Parts.{parts, nth, start, Absent}
+use Rattle.std.specs.shelf.Maps.{nth}
+use Rattle.lines.specs.Parts.{parts, start, Absent}
 
 -- a semicolon
 abbrev pub semicolon : ℕ

@@ -19,12 +19,6 @@ abbrev pub parts : ℕ → List ℕ → List (List ℕ)
 parts mark [] = [] ∷ []
 parts mark (b ∷ bs) = cond (eqb b mark) ([] ∷ parts mark bs) (onto b (parts mark bs))
 
--- a list's element, counted from 0, or none past its end
-abbrev pub nth : {A : Type 0} → List A → ℕ → Option A
-nth [] n = None
-nth (x ∷ xs) zero = Some x
-nth (x ∷ xs) (suc n) = nth xs n
-
 -- the place in the text at which a part begins: behind each earlier part and its mark
 abbrev pub start : List (List ℕ) → ℕ → ℕ
 start ps zero = 0

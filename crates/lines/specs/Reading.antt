@@ -16,7 +16,7 @@ use Rattle.lines.specs.declared.fault.LineFault.the-variants.{Word, Missing, S
 use Rattle.lines.specs.declared.fault.NumberFault.{NumberFault}
 use Rattle.lines.specs.Fields.{Place, fields, fieldOf}
 use Rattle.lines.specs.Numbers.{channelOf, valueOf}
-use Rattle.lines.specs.Parts.{nth}
+use Rattle.std.specs.shelf.Maps.{nth}
 use Rattle.lines.specs.Words.{Kind, channel, value, kinds, operationOf}
 
 -- go on with what was read, or keep the fault

@@ -3,7 +3,7 @@ use mathlib.Core.Path.{_≡_, refl, sym, ap, ap₂, _∙_}
 use mathlib.Core.Bool.{Bool, true, false, cond}
 use mathlib.Core.List.{List, [], _∷_, _++_, append-assoc, append-nil}
 use mathlib.Core.Logic.{_⊎_, inl, inr}
-use Prim.Native.Nat.{ℕ, _≤_, _<_}
+use Prim.Native.Nat.{_≤_, _<_}
 use native.Mathlib.Omega.{arith}
 use lib.ListN.{length, take, drop, length-append}
 use Rattle.std.proofs.shelf.Lists.{take-at, take-take, take-append-drop}
@@ -14,9 +14,6 @@ use Rattle.lists.specs.Beginnings.{Begins, common, Longest}
 module _ {A : Type 0} where
   pub begins-refl : (a : List A) → Begins a a
   begins-refl a = ([], append-nil a)
-
-  pub begins-append : (a b : List A) → Begins a (a ++ b)
-  begins-append a b = (b, refl)
 
   pub begins-trans : (a b c : List A) → Begins a b → Begins b c → Begins a c
   begins-trans a b c p q =
@@ -48,9 +45,6 @@ module _ {A : Type 0} where
       go : (length a < length b) ⊎ (length b ≤ length a) → Begins a b ⊎ Begins b a
       go (inl h) = inl (begins-shorter a b c p q (omega arith))
       go (inr h) = inr (begins-shorter b a c q p h)
-
-  pub begins-under : (a b c : List A) → Begins b c → Begins (a ++ b) (a ++ c)
-  begins-under a b c p = (p .0, append-assoc a b (p .0) ∙ ap (λ l. a ++ l) (p .1))
 
 module _ {A : Type 0} (same : A → A → Bool) where
   pub common-nothing : (a : List A) → common same a [] ≡ []

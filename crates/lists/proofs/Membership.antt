@@ -1,6 +1,6 @@
 -- Laws of membership, of lists that hold no element twice, and of lists that share none.
 use mathlib.Core.Path.{_≡_, refl, sym, ap, _∙_}
-use mathlib.Core.Bool.{Bool, true, false, _||_, not}
+use mathlib.Core.Bool.{Bool, true, false, _||_}
 use mathlib.Core.List.{List, [], _∷_, _++_}
 use mathlib.Core.Logic.{_⊎_, inl, inr}
 use native.Mathlib.Omega.{arith}
@@ -29,14 +29,6 @@ module _ {A : Type 0} (same : A → A → Bool) where
         λ h. let p = and-parts _ _ h in (not-true _ (p .0), ih .0 (p .1)),
         λ d. and-from _ _ (not-from-false _ (d .0)) (ih .1 (d .1)),
       )
-
-  pub apart-left : (a b c : List A) → Apart same (a ++ b) c → Apart same a c
-  apart-left [] b c p = tt
-  apart-left (x ∷ a) b c p = (p .0, apart-left a b c (p .1))
-
-  pub apart-append : (a b c : List A) → Apart same a c → Apart same b c → Apart same (a ++ b) c
-  apart-append [] b c p q = q
-  apart-append (x ∷ a) b c p q = (p .0, apart-append a b c (p .1) q)
 
   pub distinct-append : (a b : List A) → Distinct same a → Distinct same b → Apart same a b → Distinct same (a ++ b)
   distinct-append [] b d e p = e

@@ -1,19 +1,19 @@
 -- Laws of the split: there is one, it is the only one, and where the procedure finds it.
 use mathlib.Core.Path.{_≡_, refl, sym, ap, ap₂, _∙_, subst, subst₂}
-use mathlib.Core.Bool.{Bool, true, false, cond}
+use mathlib.Core.Bool.{Bool, true}
 use mathlib.Core.List.{List, [], _∷_, _++_, append-assoc, append-nil}
 use mathlib.Core.Logic.{_⊎_, inl, inr}
-use Prim.Native.Nat.{ℕ, _+_, _≤_, _<_}
+use Prim.Native.Nat.{ℕ, _+_}
 use native.Mathlib.Omega.{arith}
 use lib.Dec.{eqb}
-use lib.ListN.{length, take, drop}
+use lib.ListN.{length, drop}
 use Rattle.std.proofs.shelf.Lists.{drop-at, append-cancel-left, nil-from-length}
 use Rattle.std.proofs.shelf.Tests.{eq-eqb, eqb-true, cond-both}
 use Rattle.lists.specs.Orders.{Tells}
 use Rattle.lists.specs.Membership.{Distinct}
 use Rattle.lists.specs.Difference.{without}
 use Rattle.lists.specs.Beginnings.{Begins, common}
-use Rattle.lists.specs.Splits.{Is-split, started, procedure, Procedure-splits}
+use Rattle.lists.specs.Splits.{Is-split, started, Procedure-splits}
 use Rattle.lists.proofs.Membership.{distinct-right, distinct-left}
 use Rattle.lists.proofs.Difference.{without-front}
 use Rattle.lists.proofs.Beginnings.{begins-refl, begins-same, begins-length, common-begins-left, common-begins-right, common-append, common-most, common-of-begins, common-of-begun}

@@ -13,7 +13,7 @@ use Rattle.lists.specs.Beginnings.{common}
 use Rattle.lists.specs.Membership.{member}
 use Rattle.lists.specs.Difference.{without}
 use Rattle.lists.proofs.Beginnings.{common-nothing}
-use Rattle.lists.proofs.Merging.{added, adding, adding-length}
+use Rattle.lists.proofs.Merging.{adding, adding-length}
 
 -- a function of what is left of the list
 pub left-more : {X Y : Type 0} (F : List X → Y) (xs : List X) (i : ℕ) (x : X) → i < length xs → x ≡ getD xs i x → F (drop i xs) ≡ F (x ∷ drop (i + 1) xs)

@@ -1,8 +1,8 @@
 // Making, reading and changing a sequence of bounded length.
 ghost use mathlib.Core.Path.{_≡_};
 ghost use mathlib.Core.Bool.{cond};
-ghost use mathlib.Core.List.{List, [], _∷_, _++_};
-ghost use Prim.Native.Nat.{ℕ, _+_};
+ghost use mathlib.Core.List.{[], _∷_, _++_};
+ghost use Prim.Native.Nat.{_+_};
 ghost use lib.Dec.{ltb, eqb, leb};
 ghost use lib.ListN.{length, take};
 ghost use Rattle.lists.specs.Held.{held, Popped};

@@ -1,5 +1,5 @@
 // A sequence of bounded length, as it lies in memory.
-ghost use Prim.Native.Nat.{ℕ, _≤_, _-_};
+ghost use Prim.Native.Nat.{_≤_, _-_};
 ghost use lib.ListN.{length, drop, replicate};
 ghost use mathlib.Core.Path.{_≡_};
 

@@ -3,7 +3,8 @@ use native.Mathlib.Omega.{arith}
 use lib.ListN.{length, take}
 use Rattle.std.specs.Options.{mapped}
 use Rattle.lines.specs.Fields.{semicolon, fields}
-use Rattle.lines.specs.Parts.{nth, start, beside, rejoined}
+use Rattle.std.specs.shelf.Maps.{nth}
+use Rattle.lines.specs.Parts.{start, beside, rejoined}
 use Rattle.std.specs.declared.option.Option.the-variants.{Some}
 use Rattle.lines.proofs.FieldLaws.{field-found}
 use Rattle.lines.proofs.JoinLaws.{fields-parted}

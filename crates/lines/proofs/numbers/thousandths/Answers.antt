@@ -1,10 +1,10 @@
-use mathlib.Core.Path.{_≡_, sym, ap, _∙_}
-use Prim.Native.Nat.{_+_, _-_, _*_, _<_, _≤_, _^_}
+use mathlib.Core.Path.{sym, ap, _∙_}
+use Prim.Native.Nat.{_+_, _-_, _*_, _<_}
 use native.Mathlib.Omega.{arith}
 use borrow.Author.Needs.{needs}
-use lib.ListN.{length, take, drop}
+use lib.ListN.{length}
 use Rattle.std.specs.declared.result.Result.the-variants.{Ok}
-use Rattle.lines.specs.Numbers.{behind, sizeOf, pointed}
+use Rattle.lines.specs.Numbers.{pointed}
 use Rattle.lines.proofs.DigitLaws.{leading-most}
 use Rattle.lines.proofs.NumberLaws.{whole-small, fraction-small, from, length-from, size-behind, behind-empty, behind-point, behind-other}
 use Rattle.lines.proofs.numbers.thousandths.Needs as need

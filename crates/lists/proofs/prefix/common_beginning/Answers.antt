@@ -1,7 +1,7 @@
 use native.Mathlib.Omega.{arith}
 use mathlib.Core.Path.{_≡_, sym, ap, subst, _∙_}
 use Prim.Native.Nat.{_-_}
-use lib.ListN.{length, take}
+use lib.ListN.{take}
 use Rattle.lists.specs.Beginnings.{common, Longest}
 use Rattle.lists.proofs.Beginnings.{common-take, common-longest}
 use Rattle.lists.proofs.prefix.common_beginning.Needs as need

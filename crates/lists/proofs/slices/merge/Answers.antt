@@ -4,7 +4,7 @@ use lib.ListN.{length, length-append}
 use Rattle.std.proofs.shelf.Tests.{leb-false}
 use Rattle.lists.specs.Held.{held}
 use Rattle.lists.specs.Difference.{without}
-use Rattle.lists.specs.Merging.{firsts, merge, merged-into}
+use Rattle.lists.specs.Merging.{firsts, merged-into}
 use Rattle.lists.proofs.Merging.{merged-nothing, merge-is}
 use Rattle.lists.proofs.slices.merge.Needs as need
 

@@ -1,7 +1,7 @@
 use native.Mathlib.Omega.{arith}
 use mathlib.Core.Path.{_≡_, refl, sym, ap, _∙_}
 use mathlib.Core.List.{_++_, _∷_, []}
-use Prim.Native.Nat.{_+_, _<_, _≤_}
+use Prim.Native.Nat.{_+_}
 use lib.ListN.{length, drop, take}
 use Rattle.std.proofs.shelf.Lists.{at-drop-all, length-push, take-all, take-append-le}
 use Rattle.std.proofs.shelf.Tests.{ltb-false, le-leb, lt-leb}
