@@ -35,6 +35,7 @@ pub record Place : Type 0 where
   pub begins : ℕ
   pub text : List ℕ
 
+-- what a field of the code tells
 abbrev pub shown : Field → Place
 shown f = record { number = f .number; begins = f .start; text = f .bytes .now }
 

@@ -51,6 +51,7 @@ pub record Pointed (bytes : List ℕ) (n : ℕ) : Type 0 where
 abbrev pub Size : List ℕ → ℕ → Type 0
 Size bytes n = Whole bytes n ⊎ Pointed bytes n
 
+-- a size with no sign in front
 pub record Plain (bytes : List ℕ) (z : ℤ) : Type 0 where
   pub thousandths : ℕ
   pub form : Size bytes thousandths

@@ -35,10 +35,12 @@ behind w at (b ∷ bs) = cond (eqb b 46) (pointed w at (length bs) (numeral 3 bs
 abbrev pub sizeOf : List ℕ → Result ℕ ℕ
 sizeOf text = cond (eqb (leading 6 text) 0) (Err 0) (behind (worth (take (leading 6 text) text)) (leading 6 text) (drop (leading 6 text) text))
 
+-- a size without a sign is the number itself
 abbrev pub plus : ℕ → Result ℕ ℕ → Result ℤ NumberFault
 plus field (Ok n) = Ok (pos n)
 plus field (Err at) = Err (Form field at)
 
+-- a size behind a minus is its negative, and its offsets count the minus
 abbrev pub minus : ℕ → Result ℕ ℕ → Result ℤ NumberFault
 minus field (Ok n) = Ok (negℤ (pos n))
 minus field (Err at) = Err (Form field (at + 1))

@@ -29,10 +29,12 @@ abbrev pub raised : {A : Type 0} → (A → ℤ) → Result A NumberFault → Re
 raised f (Ok n) = Ok (f n)
 raised f (Err e) = Err (Number e)
 
+-- the number that a field of a kind writes
 abbrev pub numberOf : Kind → Place → Result ℤ LineFault
 numberOf channel p = raised pos (channelOf p)
 numberOf value p = raised (λ z. z) (valueOf p)
 
+-- a field that is there is read, and one that is not is missing
 abbrev pub present : Kind → ℕ → Option Place → Result ℤ LineFault
 present k n (Some p) = numberOf k p
 present k n None = Err (Missing n)
@@ -41,10 +43,12 @@ present k n None = Err (Missing n)
 abbrev pub numberAt : Kind → List ℕ → ℕ → Result ℤ LineFault
 numberAt k line n = present k n (fieldOf line n)
 
+-- a word that no operation has is a fault
 abbrev pub known : Option Operation → Result Operation LineFault
 known (Some op) = Ok op
 known None = Err Word
 
+-- the operation that the text of field 0 asks for
 abbrev pub wordOf : Option (List ℕ) → Result Operation LineFault
 wordOf (Some text) = known (operationOf text)
 wordOf None = Err Word
