@@ -26,9 +26,9 @@ pub fn contains<T: Order>(list: &[T], x: &T) -> bool
 pub fn join<T: Copy, const N: usize>(a: &[T], b: &[T], blank: T) -> Option<Seq<T, N>>
     ensures { λ r. ⌜ Made r (now (a .entry) ++ now (b .entry)) blank ⌝ }
 {
-    let mut all = Seq::new(blank);
-    if all.try_extend(a) && all.try_extend(b) {
-        Some(all)
+    let mut both = Seq::new(blank);
+    if both.try_extend(a) && both.try_extend(b) {
+        Some(both)
     } else {
         None
     }

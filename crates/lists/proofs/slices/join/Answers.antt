@@ -11,7 +11,7 @@ pub returns-else-try-extend : need.returns-else-try-extend
 returns-else-try-extend g c =
     let a = c .args .a .now in
     let b = c .args .b .now in
-    let none = c .new-all .ensures .held in
+    let none = c .new-both .ensures .held in
     elim (c .else-try-extend .came) [
       | need.else-try-extend·by·then-try-extend·else-try-extend-2 w ↦
           let first : held (c .try-extend .last .self) ≡ a = w .if-try-extend .ensures tt .held ∙ ap (λ h. h ++ a) none in
