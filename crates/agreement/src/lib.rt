@@ -3,6 +3,8 @@
 // proposed, and `Late` when it is first asked. A `BoardSet` says which boards. What an agreement holds and what each call
 // may do is defined in specs/Agreements.antt, over specs/Majorities.antt and Refusals.antt, and told in docs/agreement.md.
 
+#![tactic(auto)]
+
 mod board_set;
 mod first;
 mod interface;

@@ -2,6 +2,8 @@
 // wrong with it and where. `read` takes a whole line, `field` hands out one field of it, and a `Field` reads its
 // channel or its value. What a line means is defined in specs/Asking.antt, over specs/Forms.antt.
 
+#![tactic(auto)]
+
 mod fault;
 mod fields;
 mod marks;

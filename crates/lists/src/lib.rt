@@ -6,6 +6,8 @@
 //
 // What each operation means is defined in specs/, one file a topic, and told in docs/lists.md.
 
+#![tactic(auto)]
+
 mod bounded;
 mod inserting;
 mod laws;

@@ -1,5 +1,8 @@
 // Reads serial lines from standard input and says, line by line, what each one asks for in exact thousandths,
 // or what is wrong with it and where.
+
+#![tactic(auto)]
+
 ghost use Rattle.std.specs.Prelude.{◌≡◌, IfOk};
 ghost use Rattle.rack.specs.Tallies.{is_read, tally_of};
 

@@ -3,6 +3,8 @@
 // A `Request` is an operation with its numbers, a `Reply` a code with a number, and a `Note` says how to undo a doing.
 // `Service` is the interface of every service that a board can keep. Its meaning, and the law that it shows, are in specs/Model.antt.
 
+#![tactic(auto)]
+
 mod doing;
 mod interface;
 mod reply;

@@ -4,6 +4,8 @@
 // bank as a plain record, which may say anything. Their rules, on the list of rows or values, are in specs/Readings.antt and
 // specs/Stacks.antt, and docs/services.md tells them.
 
+#![tactic(auto)]
+
 mod notes;
 mod readings;
 mod readings_rows;

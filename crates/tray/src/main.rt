@@ -1,5 +1,8 @@
 // Reads serial lines from standard input and does them in order on one readings table. It says, line by line, what each one
 // asks for in exact thousandths and what the table replies, or what is wrong with the line and where; and then the table.
+
+#![tactic(auto)]
+
 ghost use Rattle.std.specs.Prelude.{◌≡◌, IfOk};
 ghost use Rattle.tray.specs.Tables.{Performed, rows_of};
 ghost use Rattle.tray.specs.Tallies.{tally_of};

@@ -1,6 +1,8 @@
 // Many examples, each with what the rules say of it, written from the rules; and callers that are proved against an interface
 // alone, which the examples run with each implementation.
 
+#![tactic(auto)]
+
 #[cfg(test)]
 mod agreement_tests;
 mod callers;
