@@ -1,9 +1,10 @@
 // What two lists have in common at their beginning, and the split of an open order against a decided one.
-ghost use Rattle.std.specs.Prelude.{◌≡◌, ◌≤◌, List, length};
+ghost use Rattle.std.specs.Prelude.{◌≡◌, ◌≤◌, List, length, ⊤};
 ghost use Rattle.lists.specs.Beginnings.{common, Longest};
 ghost use Rattle.lists.specs.Splits.{IsSplit};
 
 use crate::ordering::Order;
+use std::alloc::AllocError;
 
 // How many elements the two lists have in common at their beginning.
 fn common_length<T: Order>(a: &[T], b: &[T]) -> usize
@@ -33,6 +34,16 @@ pub struct Parts<'o, 'd, T> {
     pub good: &'o [T],
     pub bad: &'o [T],
     pub new: &'d [T],
+}
+
+impl<'o, 'd, T> Clone for Parts<'o, 'd, T> {
+    ghost is_clone = { λ x y. y ≡ x };
+
+    ghost is_infallible = { λ _. ⊤ };
+
+    fn clone(&self) -> Result<Self, AllocError> {
+        Ok(*self)
+    }
 }
 
 impl<'o, 'd, T> Copy for Parts<'o, 'd, T> {}

@@ -8,6 +8,6 @@ returns g c =
     let same = g.T.Order.same in
     let a = c.args.a.now in
     let b = c.args.b.now in
-    let n = c.common-length.result in
-    let is : take (n - 0) a ≡ common same a b = ap (λ k. take k a) (omega (arith, c.common-length.ensures.is)) ∙ common-take same a b in
+    let n = c.common_length.result in
+    let is : take (n - 0) a ≡ common same a b = ap (λ k. take k a) (omega (arith, c.common_length.ensures.is)) ∙ common-take same a b in
     record { is = is; longest = subst (Longest a b) (sym is) (common-longest same g.met.T.Order.tells a b) }

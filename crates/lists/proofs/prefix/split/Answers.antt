@@ -15,7 +15,7 @@ returns g c =
     let tells = g.met.T.Order.tells in
     let o = c.args.opened.now in
     let f = c.args.decided.now in
-    let n = c.common-length-n.result in
-    let good : take (n - 0) o ≡ common same o f = ap (λ k. take k o) (omega (arith, c.common-length-n.ensures.is)) ∙ common-take same o f in
-    let is = split_found same tells o f _ _ _ good (rest o n _ c.common-length-n.ensures.is) (rest f n _ c.common-length-n.ensures.is) in
+    let n = c.common_length-n.result in
+    let good : take (n - 0) o ≡ common same o f = ap (λ k. take k o) (omega (arith, c.common_length-n.ensures.is)) ∙ common-take same o f in
+    let is = split_found same tells o f _ _ _ good (rest o n _ c.common_length-n.ensures.is) (rest f n _ c.common_length-n.ensures.is) in
     record { is = is; only = λ g b n s. split_unique same tells o f g b n _ _ _ s is; good = good }

@@ -5,7 +5,7 @@ use Rattle.lists.specs.Ranges.{between, in_range}
 use Rattle.lists.proofs.Ranges.{between_none}
 use Rattle.lists.proofs.Steps.{count_yes, count_no}
 use Rattle.lists.proofs.slices.between.Goals as goal
-use Rattle.lists.proofs.slices.between.Goals.{then-is-between, else-is-between}
+use Rattle.lists.proofs.slices.between.Goals.{then-is_between, else-is_between}
 
 pub loop-x-preserved : goal.loop-x-preserved
 loop-x-preserved g c =
@@ -13,13 +13,13 @@ loop-x-preserved g c =
     let test = in_range g.T.Order.before c.args.low.now c.args.high.now in
     let list = c.args.list.now in
     let x = c.x-item.result in
-    elim c.if-is-between.branch [
-      | then-is-between w ↦ (
-        w.count-is ∙ ap (λ n. n + 1) l.invariant.0 ∙ sym (count_yes list l.x-index x c.loop-x-test.true c.x-item.is test (sym w.if-is-between.ensures)),
+    elim c.if-is_between.branch [
+      | then-is_between w ↦ (
+        w.count-is ∙ ap (λ n. n + 1) l.invariant.0 ∙ sym (count_yes list l.x-index x c.loop-x-test.true c.x-item.is test (sym w.if-is_between.ensures)),
         omega (arith, w.count-is, l.invariant.1),
       )
-      | else-is-between w ↦ (
-        w.count-is ∙ l.invariant.0 ∙ sym (count_no list l.x-index x c.loop-x-test.true c.x-item.is test (sym w.if-is-between.ensures)),
+      | else-is_between w ↦ (
+        w.count-is ∙ l.invariant.0 ∙ sym (count_no list l.x-index x c.loop-x-test.true c.x-item.is test (sym w.if-is_between.ensures)),
         omega (arith, w.count-is, l.invariant.1),
       )
     ]

@@ -6,21 +6,21 @@ use Rattle.lists.specs.Merging.{firsts, merged_into}
 use Rattle.lists.proofs.Merging.{merged-nothing, merge_is}
 use Rattle.lists.proofs.slices.merge.Goals as goal
 
-pub returns-then-try-merge-2 : goal.returns-then-try-merge-2
-returns-then-try-merge-2 g c =
+pub returns-then-try_merge-2 : goal.returns-then-try_merge-2
+returns-then-try_merge-2 g c =
     let same = g.T.Order.same in
     let tells = g.met.T.Order.tells in
     let a = c.args.a.now in
     let b = c.args.b.now in
-    let first : held c.try-merge.new.self ≡ firsts same a =
-    c.if-try-merge.ensures.held ∙ ap (λ h. merged_into same h a) c.new-all.ensures.held ∙ merged-nothing same tells a in (
-      c.if-try-merge-2.ensures.held ∙ ap (λ h. merged_into same h b) first ∙ merge_is same tells a b,
-      c.try-merge-then-try-merge.ensures.blank ∙ c.try-merge.ensures.blank ∙ c.new-all.ensures.blank,
+    let first : held c.try_merge.new.self ≡ firsts same a =
+    c.if-try_merge.ensures.held ∙ ap (λ h. merged_into same h a) c.new-all.ensures.held ∙ merged-nothing same tells a in (
+      c.if-try_merge-2.ensures.held ∙ ap (λ h. merged_into same h b) first ∙ merge_is same tells a b,
+      c.try_merge-then-try_merge.ensures.blank ∙ c.try_merge.ensures.blank ∙ c.new-all.ensures.blank,
     )
 
 -- either part is too long for what is left, so the merge is too long
-pub returns-else-try-merge : goal.returns-else-try-merge
-returns-else-try-merge g c =
+pub returns-else-try_merge : goal.returns-else-try_merge
+returns-else-try_merge g c =
     let same = g.T.Order.same in
     let tells = g.met.T.Order.tells in
     let a = c.args.a.now in
@@ -28,10 +28,10 @@ returns-else-try-merge g c =
     let none = c.new-all.ensures.held in
     let is = ap length (merge_is same tells a b) in
     let once : merged_into same (held c.new-all.result) a ≡ firsts same a = ap (λ h. merged_into same h a) none ∙ merged-nothing same tells a in
-    elim c.else-try-merge.branch [
-      | goal.else-try-merge-via-then-try-merge+else-try-merge-2 w ↦
-          let first : held c.try-merge.new.self ≡ firsts same a = w.if-try-merge.ensures.held ∙ once in
-          omega (arith, leb-false _ _ (sym w.if-try-merge-2.ensures.fits), ap (λ h. length (merged_into same h b)) first, is)
-      | goal.else-try-merge-via-else-try-merge w ↦
-          omega (arith, leb-false _ _ (sym w.if-try-merge.ensures.fits), ap length once, length-append (firsts same a) (without same (firsts same b) (firsts same a)), is)
+    elim c.else-try_merge.branch [
+      | goal.else-try_merge-via-then-try_merge+else-try_merge-2 w ↦
+          let first : held c.try_merge.new.self ≡ firsts same a = w.if-try_merge.ensures.held ∙ once in
+          omega (arith, leb-false _ _ (sym w.if-try_merge-2.ensures.fits), ap (λ h. length (merged_into same h b)) first, is)
+      | goal.else-try_merge-via-else-try_merge w ↦
+          omega (arith, leb-false _ _ (sym w.if-try_merge.ensures.fits), ap length once, length-append (firsts same a) (without same (firsts same b) (firsts same a)), is)
     ]

@@ -13,7 +13,7 @@ loop-board-preserved c =
     let u = boards_of c.args.self in
     let w = boards_of c.args.other in
     elim c.if-contains.branch [
-      | then-contains v ↦ λ k. ap (λ s. boards_of s k) v.all-is ∙ ap (λ s. s k) (v.with_all.ensures ∙ cond-true _ _ _ (lt-ltb l.board 7 c.loop-board-test.true))
+      | then-contains v ↦ λ k. ap (λ s. boards_of s k) v.all-is ∙ ap (λ s. s k) (v.with-all.ensures ∙ cond-true _ _ _ (lt-ltb l.board 7 c.loop-board-test.true))
           ∙ either_with u (boards_of l.all) w l.board k c.loop-board-test.true (sym v.if-contains.ensures) (l.invariant k)
       | else-contains v ↦ λ k. ap (λ s. boards_of s k) v.all-is ∙ l.invariant k ∙ either_skip u w l.board k (sym v.if-contains.ensures)
     ]

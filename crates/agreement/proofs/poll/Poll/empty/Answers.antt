@@ -6,28 +6,18 @@ use Rattle.agreement.proofs.Polls.{proposed-empty, decided_empty}
 use Rattle.agreement.proofs.Settling.{silent}
 use Rattle.agreement.proofs.poll.Poll.empty.Goals as goal
 
-pub invariant-of-result : goal.invariant-of-result
-invariant-of-result c =
+pub invariant_of-result : goal.invariant_of-result
+invariant_of-result c =
     let none = proposed-empty 16 c.empty.result c.empty.ensures in
-    let open-yet = decided_empty 16 in (
-      omega arith,
-      (
-        omega arith,
-        (
-          λ e k on. absurd (both_ways _ (none e k) on),
-          (
-            λ e k on. absurd (both_ways _ (none e k) on),
-            (
-              λ e k on. absurd (both_ways _ (ap (λ o. chosen o k) (open-yet e)) on),
-              (
-                λ e w is. absurd (grind (arith, open-yet e)),
-                tt,
-              ),
-            ),
-          ),
-        ),
-      ),
-    )
+    let open-yet = decided_empty 16 in
+    record {
+      some = omega arith;
+      few = omega arith;
+      boards = λ e k on. absurd (both_ways _ (none e k) on);
+      epochs = λ e k on. absurd (both_ways _ (none e k) on);
+      within = λ e k on. absurd (both_ways _ (ap (λ o. chosen o k) (open-yet e)) on);
+      majority = λ e w is. absurd (grind (arith, open-yet e));
+    }
 
 pub returns : goal.returns
 returns c =

@@ -33,32 +33,22 @@ returns-then-epoch-ge16 c =
       prompt = settling_prompt s.n p d e d is (s.majority e) (s.within e);
     }
 
-pub invariant-of-poll : goal.invariant-of-poll
-invariant-of-poll c =
+pub invariant_of-poll : goal.invariant_of-poll
+invariant_of-poll c =
     let s = c.args.self in
     let n = s.n in
     let p = proposed_in s.proposed in
     let d = decided_in s.decided in
     let e = c.args.epoch in
-    let is = settled-row c in (
-      s.some,
-      (
-        s.few,
-        (
-          s.boards,
-          (
-            s.epochs,
-            (
-              λ f k on. settling-each n p d e (λ f o. chosen o k ≡ true → p f k ≡ true) (settled-within n (p e) (d e) k (s.within e k)) (λ f. s.within f k) f (ap (λ q. chosen (q f) k) (sym is) ∙ on),
-              (
-                λ f u h. settling-each n p d e (λ f o. o ≡ Some u → speaks n u ≡ true) (settled-majority n (p e) (d e) u (s.majority e u)) (λ f. s.majority f u) f (ap (λ q. q f) (sym is) ∙ h),
-                tt,
-              ),
-            ),
-          ),
-        ),
-      ),
-    )
+    let is = settled-row c in
+    record {
+      some = s.some;
+      few = s.few;
+      boards = s.boards;
+      epochs = s.epochs;
+      within = λ f k on. settling-each n p d e (λ f o. chosen o k ≡ true → p f k ≡ true) (settled-within n (p e) (d e) k (s.within e k)) (λ f. s.within f k) f (ap (λ q. chosen (q f) k) (sym is) ∙ on);
+      majority = λ f u h. settling-each n p d e (λ f o. o ≡ Some u → speaks n u ≡ true) (settled-majority n (p e) (d e) u (s.majority e u)) (λ f. s.majority f u) f (ap (λ q. q f) (sym is) ∙ h);
+    }
 
 pub returns : goal.returns
 returns c =

@@ -10,13 +10,13 @@ use Rattle.lists.proofs.seq.Seq.pop.Goals as goal
 some : {T : Type 0} {n : ℕ} (s : Seq T n) → false ≡ eqb (length (held s)) 0 → 0 < s.len
 some s e = omega (arith, held-length s, eqb-false _ _ (sym e))
 
-pub invariant-of-self : goal.invariant-of-self
-invariant-of-self g c =
+pub invariant_of-self : goal.invariant_of-self
+invariant_of-self g c =
     let s = c.args.self.now in
-    let last = some s c.if-is-empty.ensures in
-    (omega arith, (simp length-set s.full, (rest-pop s.items s.len g.row.N s.blank s.rest last s.within s.full, tt)))
+    let last = some s c.if-is_empty.ensures in
+    record { within = omega arith; full = simp length-set s.full; rest = rest-pop s.items s.len g.row.N s.blank s.rest last s.within s.full }
 
 pub returns : goal.returns
 returns g c =
     let s = c.args.self.now in
-    record { held = held-pop s.items s.len s.blank _ (some s c.if-is-empty.ensures) (omega arith); blank = refl }
+    record { held = held-pop s.items s.len s.blank _ (some s c.if-is_empty.ensures) (omega arith); blank = refl }

@@ -19,11 +19,11 @@ loop-x-preserved g c =
     let s = c.args.self.now in
     let more = c.args.more.now in
     let x = c.x-item.result in
-    let p = pushed _ (held l.self) (held c.try-push.new.self) g.row.N x c.try-push.ensures.fits c.try-push.ensures.held (omega (arith, held-length s, s.within, l.invariant.0)) in (
+    let p = pushed _ (held l.self) (held c.try_push.new.self) g.row.N x c.try_push.ensures.fits c.try_push.ensures.held (omega (arith, held-length s, s.within, l.invariant.0)) in (
       omega (arith, l.invariant.0, ap length p, length_push (held l.self) x),
       ap (λ h. h ++ drop (l.x-index + 1) more) p ∙ append_assoc (held l.self) (x ∷ []) (drop (l.x-index + 1) more)
           ∙ sym (left-more (λ r. held l.self ++ r) more l.x-index x c.loop-x-test.true c.x-item.is) ∙ l.invariant.1,
-      c.try-push.ensures.blank ∙ l.invariant.2,
+      c.try_push.ensures.blank ∙ l.invariant.2,
     )
 
 pub returns : goal.returns
