@@ -8,20 +8,20 @@ use Rattle.lines.proofs.JoinLaws.{fields-parted}
 use Rattle.lines.proofs.PartLaws.{passed_more, passed_last, passed_part, passed_start, rejoined_part, beside_first}
 use Rattle.lines.proofs.fields.field.Goals as goal
 
-pub returns-in-err-rest : goal.returns-in-err-rest
-returns-in-err-rest c =
-    rw c.from-residual.ensures (record {
+pub returns-in_err-rest : goal.returns-in_err-rest
+returns-in_err-rest c =
+    rw c.from_residual.ensures (record {
       parted = fields-parted c.args.line.now;
       finds = sym (ap (option_map _) (passed_last semicolon c.args.line.now c.loop.rest.now c.cut.result.0.now c.loop.start c.loop.counter c.args.number
-          c.loop.invariant (c.cut.ensures.parts ∙ ap (beside semicolon c.cut.result.0.now) c.in-err-rest.was) c.loop-test.true));
+          c.loop.invariant (c.cut.ensures.parts ∙ ap (beside semicolon c.cut.result.0.now) c.in_err-rest.was) c.loop-test.true));
       part = tt;
     })
 
 pub loop-preserved : goal.loop-preserved
 loop-preserved c =
-    passed_more semicolon c.args.line.now c.loop.rest.now c.cut.result.0.now c.in-ok-rest.rest.now c.loop.start c.loop.counter c.loop.invariant
-    (c.cut.ensures.parts ∙ ap (beside semicolon c.cut.result.0.now) c.in-ok-rest.was)
-    (c.cut.ensures.whole ∙ ap (rejoined semicolon c.cut.result.0.now) c.in-ok-rest.was)
+    passed_more semicolon c.args.line.now c.loop.rest.now c.cut.result.0.now c.in_ok-rest.rest.now c.loop.start c.loop.counter c.loop.invariant
+    (c.cut.ensures.parts ∙ ap (beside semicolon c.cut.result.0.now) c.in_ok-rest.was)
+    (c.cut.ensures.whole ∙ ap (rejoined semicolon c.cut.result.0.now) c.in_ok-rest.was)
 
 pub returns : goal.returns
 returns c =

@@ -3,10 +3,10 @@ use Rattle.lines.specs.Digits.{worth}
 use Rattle.lines.proofs.DigitLaws.{read_stop, read_more, read_end}
 use Rattle.lines.proofs.numbers.leading_digits.Goals as goal
 
-pub returns-in-default : goal.returns-in-default
-returns-in-default c =
+pub returns-in_default : goal.returns-in_default
+returns-in_default c =
     record {
-      count = sym (read_stop c.args.most c.args.text.now c.loop-at.at c.loop-at.value c.loop-at.invariant (omega arith) c.loop-at-test.true (sym c.in-default.ensures));
+      count = sym (read_stop c.args.most c.args.text.now c.loop-at.at c.loop-at.value c.loop-at.invariant (omega arith) c.loop-at-test.true (sym c.in_default.ensures));
       value = c.loop-at.invariant.value;
       within = omega arith;
       small = c.loop-at.invariant.small;

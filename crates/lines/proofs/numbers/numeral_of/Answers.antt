@@ -7,7 +7,7 @@ use Rattle.lines.proofs.numbers.numeral_of.Goals as goal
 pub returns-then-run-text : goal.returns-then-run-text
 returns-then-run-text c =
     let text = c.args.text.now in
-    let run = c.leading-digits-run in
+    let run = c.leading_digits-run in
     let all : run.result.count ≡ length text = c.if-run-text.true in
     record {
       is =

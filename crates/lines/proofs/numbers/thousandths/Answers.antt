@@ -5,23 +5,23 @@ use Rattle.lines.proofs.NumberLaws.{whole_small, fraction_small, from, length_fr
 use Rattle.lines.proofs.numbers.thousandths.Goals as goal
 
 -- whole part and fraction together
-bound : (c : goal.After-last-place) → c.leading-digits-count.result.value * 1000 + c.in-Ok.parts * c.last-place.result < 1000000000
+bound : (c : goal.After-last_place) → c.leading_digits-count.result.value * 1000 + c.in-Ok.parts * c.last_place.result < 1000000000
 bound c =
-    let run = c.leading-digits-count in
+    let run = c.leading_digits-count in
     let text = c.args.text.now in
     let digits = length (from 1 (from run.result.count text)) in
     let ok = c.in-Ok.ensures.ok in
     let whole = whole_small run.result.value run.result.count (omega (arith, run.ensures.count, leading-most 6 text)) run.ensures.small in
-    let part : c.in-Ok.parts * c.last-place.result < 1000 =
-    rw c.last-place.ensures (fraction_small c.in-Ok.parts digits ok.1 ok.2 ok.0) in
+    let part : c.in-Ok.parts * c.last_place.result < 1000 =
+    rw c.last_place.ensures (fraction_small c.in-Ok.parts digits ok.1 ok.2 ok.0) in
     omega (arith, whole, part)
 
-pub overflow-add-result : goal.overflow-add-result
-overflow-add-result c = omega (arith, bound c)
+pub overflow_add-result : goal.overflow_add-result
+overflow_add-result c = omega (arith, bound c)
 
 pub returns-in-empty : goal.returns-in-empty
 returns-in-empty c =
-    let run = c.leading-digits-count in
+    let run = c.leading_digits-count in
     let text = c.args.text.now in
     record {
       is =
@@ -32,12 +32,12 @@ returns-in-empty c =
 
 pub returns-in-Ok : goal.returns-in-Ok
 returns-in-Ok c =
-    let run = c.leading-digits-count in
+    let run = c.leading_digits-count in
     let text = c.args.text.now in
     let rest = from run.result.count text in
     record {
       is =
-          ap (λ n. Ok (run.result.value * 1000 + c.in-Ok.parts * n)) c.last-place.ensures
+          ap (λ n. Ok (run.result.value * 1000 + c.in-Ok.parts * n)) c.last_place.ensures
           ∙ ap (pointed run.result.value run.result.count (length (from 1 rest))) c.in-Ok.ensures.is
           ∙ sym (size-behind text run.result.count run.result.value run.ensures.count run.ensures.value c.if-count-eq0.false
           ∙ behind_point run.result.value run.result.count rest (search rules) (search rules));
@@ -46,7 +46,7 @@ returns-in-Ok c =
 
 pub returns-in-Err : goal.returns-in-Err
 returns-in-Err c =
-    let run = c.leading-digits-count in
+    let run = c.leading_digits-count in
     let text = c.args.text.now in
     let rest = from run.result.count text in
     record {
@@ -59,9 +59,9 @@ returns-in-Err c =
           omega (arith, c.in-Err.ensures.ok, length_from run.result.count text, length_from 1 rest);
     }
 
-pub returns-in-default : goal.returns-in-default
-returns-in-default c =
-    let run = c.leading-digits-count in
+pub returns-in_default : goal.returns-in_default
+returns-in_default c =
+    let run = c.leading_digits-count in
     let text = c.args.text.now in
     record {
       is =
