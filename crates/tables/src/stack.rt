@@ -2,11 +2,10 @@
 use lists::Seq;
 
 // At most 16 values, the newest last.
+#[derive(Clone, Copy)]
 pub struct Stack {
     pub(crate) values: Seq<i32, 16>,
 }
-
-impl Copy for Stack {}
 
 // As many values as the depth says, if there are so many places. Nothing is known of it.
 #[derive(Clone, Copy)]

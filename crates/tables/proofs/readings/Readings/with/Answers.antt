@@ -6,7 +6,7 @@ use Rattle.tables.specs.Rows.{same_row}
 use Rattle.tables.specs.RowLaws.{apart_pushed}
 use Rattle.tables.proofs.readings.Readings.with.Goals as goal
 
-pub invariant-of-result : goal.invariant-of-result
-invariant-of-result c =
+pub invariant_of-result : goal.invariant_of-result
+invariant_of-result c =
     let t = c.args.self in
-    (held-within c.try-push.new.self, (ap (distinct same_row) c.if-try-push.ensures.held ∙ apart_pushed c.args.row (tabled t) t.apart c.requires, tt))
+    record { few = held-within c.try_push.new.self; apart = ap (distinct same_row) c.if-try_push.ensures.held ∙ apart_pushed c.args.row (tabled t) t.apart c.requires }

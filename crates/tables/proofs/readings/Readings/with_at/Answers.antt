@@ -6,9 +6,9 @@ use Rattle.tables.specs.Rows.{same_row}
 use Rattle.tables.specs.RowLaws.{apart_inserted}
 use Rattle.tables.proofs.readings.Readings.with_at.Goals as goal
 
-pub invariant-of-result : goal.invariant-of-result
-invariant-of-result c =
+pub invariant_of-result : goal.invariant_of-result
+invariant_of-result c =
     let t = c.args.self in
-    let is = c.if-try-insert.ensures.held in
+    let is = c.if-try_insert.ensures.held in
     let new = sym c.if-not-contains.ensures in
-    (held-within c.try-insert.new.self, (ap (distinct same_row) is ∙ apart_inserted c.args.row c.args.at (tabled t) t.apart new, tt))
+    record { few = held-within c.try_insert.new.self; apart = ap (distinct same_row) is ∙ apart_inserted c.args.row c.args.at (tabled t) t.apart new }

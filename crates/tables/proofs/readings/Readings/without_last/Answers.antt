@@ -9,11 +9,11 @@ use Rattle.tables.specs.Rows.{same_row}
 use Rattle.tables.specs.RowLaws.{apart_front, front_taken}
 use Rattle.tables.proofs.readings.Readings.without_last.Goals as goal
 
-pub invariant-of-result : goal.invariant-of-result
-invariant-of-result c =
+pub invariant_of-result : goal.invariant_of-result
+invariant_of-result c =
     let t = c.args.self in
     let was = c.in-Some.ensures.held in
-    (held-within c.pop.new.self, (apart_front (held c.pop.new.self) (c.in-Some.field-0 ∷ []) (sym (ap (distinct same_row) was) ∙ t.apart), tt))
+    record { few = held-within c.pop.new.self; apart = apart_front (held c.pop.new.self) (c.in-Some.field-0 ∷ []) (sym (ap (distinct same_row) was) ∙ t.apart) }
 
 pub returns-in-Some : goal.returns-in-Some
 returns-in-Some c =
