@@ -16,7 +16,7 @@ loop-rest-preserved-in-Some g c =
     let more = c.in-Some.more.now in
     let next : lines_of rest ≡ line ∷ lines_of more = lines_more rest line more (c.cut.ensures.parts ∙ ap (beside 10 line) c.in-Some.is) in
     let less : length more < length rest = let long = MatchOption-at_some _ _ _ c.in-Some.is c.cut.ensures.long in omega (arith, long) in
-    let asked = c.in-ok-say.ensures in
+    let asked = c.in_ok-say.ensures in
     let said : (t : Tally) → c.if-branch.tally ≡ t → Said text more t.read t.faulty → Said text more c.if-branch.tally.read c.if-branch.tally.faulty =
     λ t e h. subst (λ t. Said text more t.read t.faulty) (sym e) h in
     elim c.if-branch.branch [

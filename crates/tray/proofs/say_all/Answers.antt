@@ -22,7 +22,7 @@ loop-rest-preserved-in-Some-after g c =
     let inv = c.loop-rest.invariant in
     let next : lines_of rest ≡ line ∷ lines_of more = lines_more rest line more (c.cut.ensures.parts ∙ ap (beside 10 line) c.in-Some-after.is) in
     let less : length more < length rest = let long = MatchOption-at_some _ _ _ c.in-Some-after.is c.cut.ensures.long in omega (arith, long) in
-    let done = c.in-ok-next.ensures in
+    let done = c.in_ok-next.ensures in
     let after : (table : Readings) (tally : Tally) → c.match-branch-2.table ≡ table → c.match-branch-2.tally ≡ tally → Said text more tally.read tally.faulty → in_turn (tabled table) (lines_of more) ≡ rows_of text
     → Said text more c.match-branch-2.tally.read c.match-branch-2.tally.faulty × (in_turn (tabled c.match-branch-2.table) (lines_of more) ≡ rows_of text) =
     λ table tally et el said left. (subst (λ t. Said text more t.read t.faulty) (sym el) said, ap (λ t. in_turn (tabled t) (lines_of more)) et ∙ left) in
