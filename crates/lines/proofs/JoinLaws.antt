@@ -9,7 +9,7 @@ use Rattle.service.specs.declared.request.Operation.TheVariants.{Put, Drop, Coun
 use Rattle.lines.specs.Asking.{Means, Numbers}
 use Rattle.lines.specs.Fields.{semicolon, fields, joined, Parted}
 use Rattle.lines.specs.Forms.{text, Numeral, Size}
-use Rattle.lines.specs.Parts.{parts, onto, First, Absent}
+use Rattle.lines.specs.Parts.{onto, First, Absent}
 use Rattle.lines.specs.Words.{Kind, channel, value, word}
 use Rattle.lines.proofs.PartLaws.{parts_first, parts-absent, parts-some}
 

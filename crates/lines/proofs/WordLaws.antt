@@ -1,5 +1,5 @@
 -- The operation that a word asks for is the one that has this word.
-use Rattle.std.proofs.Common.{◌≡◌, ℕ, cond, ◌⊎◌, List, Some, Option, sym, refl, ap, ◌∙◌, ⊎_elim, arith}
+use Rattle.std.proofs.Common.{◌≡◌, ℕ, cond, List, Some, Option, sym, refl, ap, ◌∙◌, ⊎_elim, arith}
 use Rattle.std.specs.Str.{bytes_eq}
 use Rattle.std.proofs.lemmas.Slice.Eq.{bytes_eq-Decides}
 use Rattle.std.proofs.lemmas.Bool.{cond-true, cond-false, cases_Bool}

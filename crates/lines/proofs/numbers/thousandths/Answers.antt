@@ -1,4 +1,4 @@
-use Rattle.std.proofs.Common.{◌+◌, ◌-◌, ◌*◌, ◌<◌, length, Ok, sym, ap, ◌∙◌, arith, rules}
+use Rattle.std.proofs.Common.{◌+◌, ◌*◌, ◌<◌, length, Ok, sym, ap, ◌∙◌, arith, rules}
 use Rattle.lines.specs.Numbers.{pointed}
 use Rattle.lines.proofs.DigitLaws.{leading-most}
 use Rattle.lines.proofs.NumberLaws.{whole_small, fraction_small, from, length_from, size-behind, behind-empty, behind_point, behind_other}
