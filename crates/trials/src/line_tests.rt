@@ -179,7 +179,7 @@ fn fields_with_their_places(rt: HostRuntime) -> Result<(), Fail> {
     };
     assert_eq!(rt; value.number, 2);
     assert_eq!(rt; value.start, 6);
-    assert!(rt; value.bytes == b"-0.75");
+    assert!(rt; value.bytes == b"-0.75".as_slice());
     assert!(rt; field(line, 3).is_none());
     assert!(rt; field(b"", 0).is_some());
     assert!(rt; field(b"", 1).is_none());
