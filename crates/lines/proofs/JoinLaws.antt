@@ -1,7 +1,7 @@
 -- The fields of a line and the line that texts make, one from the other.
 use Rattle.std.proofs.Common.{◌≡◌, ℕ, zero, suc, ◌+◌, ◌<◌, Bool, true, not, ◌&&◌, eqb, List, [], ◌∷◌, ◌++◌, length, drop, ℤ, sym, refl, ap, ◌∙◌, subst, inl, inr, arith}
 use Rattle.std.specs.Int.Digits.{AllBelowBase}
-use Rattle.std.specs.List.{AllByRecursion as All}
+use Rattle.std.specs.List.{AllByRecursion}
 use Rattle.std.proofs.lemmas.List.{append_assoc, length-append, length_push, take_at, drop_at, get_or_at, get_or_append_left}
 use Rattle.std.proofs.lemmas.Bool.{cond_both, eqb-true, eqb-false, and_parts, not-true}
 use Rattle.service.specs.declared.request.Operation.{Operation}
@@ -40,14 +40,14 @@ absent-cons : (b : ℕ) (bs : List ℕ) → (b ≡ semicolon → ⊥) → Absent
 absent-cons b bs ne none zero lt e = ne e
 absent-cons b bs ne none (suc k) lt e = none k (omega arith) e
 
-absent-onto : (b : ℕ) (ps : List (List ℕ)) → (b ≡ semicolon → ⊥) → All (Absent semicolon) ps → All (Absent semicolon) (onto b ps)
+absent-onto : (b : ℕ) (ps : List (List ℕ)) → (b ≡ semicolon → ⊥) → AllByRecursion (Absent semicolon) ps → AllByRecursion (Absent semicolon) (onto b ps)
 absent-onto b [] ne all = (absent-cons b [] ne absent-nil, tt)
 absent-onto b (p ∷ ps) ne all = (absent-cons b p ne all.0, all.1)
 
-absent-fields : (line : List ℕ) → All (Absent semicolon) (fields line)
+absent-fields : (line : List ℕ) → AllByRecursion (Absent semicolon) (fields line)
 absent-fields [] = (absent-nil, tt)
 absent-fields (b ∷ bs) =
-    cond_both (eqb b semicolon) _ _ (All (Absent semicolon))
+    cond_both (eqb b semicolon) _ _ (AllByRecursion (Absent semicolon))
     (λ e. (absent-nil, absent-fields bs))
     (λ e. absent-onto b (fields bs) (eqb-false b semicolon e) (absent-fields bs))
 
@@ -63,7 +63,7 @@ first-behind t rest none =
       before = λ k lt e. none k lt (sym (get_or_append_left t (semicolon ∷ rest) 0 k lt) ∙ e);
     }
 
-pub fields-joined : (t : List ℕ) (ts : List (List ℕ)) → Absent semicolon t → All (Absent semicolon) ts → fields (joined (t ∷ ts)) ≡ t ∷ ts
+pub fields-joined : (t : List ℕ) (ts : List (List ℕ)) → Absent semicolon t → AllByRecursion (Absent semicolon) ts → fields (joined (t ∷ ts)) ≡ t ∷ ts
 fields-joined t [] none all = parts-absent semicolon t none
 fields-joined t (u ∷ us) none all =
     let rest = joined (u ∷ us) in
@@ -99,7 +99,7 @@ absent-means value t z (inl v) = absent-size t v.thousandths v.form
 absent-means value t z (inr v) =
     subst (Absent semicolon) (sym v.written) (absent-cons 45 v.rest (λ e. omega (arith, e)) (absent-size v.rest v.thousandths v.form))
 
-pub absent-numbers : (ks : List Kind) (ts : List (List ℕ)) (zs : List ℤ) → Numbers ks ts zs → All (Absent semicolon) ts
+pub absent-numbers : (ks : List Kind) (ts : List (List ℕ)) (zs : List ℤ) → Numbers ks ts zs → AllByRecursion (Absent semicolon) ts
 absent-numbers [] [] [] m = tt
 absent-numbers [] [] (z ∷ zs) m = absurd m
 absent-numbers [] (t ∷ ts) zs m = absurd m

@@ -1,7 +1,7 @@
 -- The fields of a line, each with its place.
 use Rattle.std.specs.Prelude.{◌≡◌, ℕ, List, [], ◌∷◌, ◌++◌, Option}
 use Rattle.std.specs.Option.{option_map}
-use Rattle.std.specs.List.{AllByRecursion as All, slice_get}
+use Rattle.std.specs.List.{AllByRecursion, slice_get}
 use Rattle.lines.specs.declared.part.Field.{Field}
 use Rattle.lines.specs.Parts.{parts, start, Absent}
 
@@ -22,7 +22,7 @@ joined (t ∷ u ∷ ts) = t ++ (semicolon ∷ joined (u ∷ ts))
 -- the fields of a line hold no semicolon, and joined they are the line
 pub record Parted (line : List ℕ) (texts : List (List ℕ)) : Type 0 where
   pub whole : joined texts ≡ line
-  pub apart : All (Absent semicolon) texts
+  pub apart : AllByRecursion (Absent semicolon) texts
 
 -- what a field tells: its number, where it begins in the line, and its text
 pub record Place : Type 0 where

@@ -1,7 +1,7 @@
 -- Laws of lists of names, which are numbers.
 use Rattle.std.proofs.Common.{◌≡◌, ℕ, zero, suc, ◌<◌, ◌≤◌, eqb, ◌⊎◌, List, [], ◌∷◌, length, sym, ap, ◌∙◌, inl, inr, le_refl, arith}
 use Rattle.std.proofs.lemmas.Bool.{cases_eq, eq-eqb, ne_eqb}
-use Rattle.std.specs.List.{AllByRecursion as All}
+use Rattle.std.specs.List.{AllByRecursion}
 use Rattle.lists.specs.Laws.{FewNames}
 use Rattle.lists.specs.Membership.{member, Distinct, Apart}
 use Rattle.lists.specs.Difference.{without}
@@ -9,11 +9,11 @@ use Rattle.lists.proofs.Membership.{tells_eqb, apart_sym}
 use Rattle.lists.proofs.Difference.{without_none, without-distinct}
 
 -- names below u + 1 without u are below u
-without_below : (u : ℕ) (a : List ℕ) → All (λ m. m < suc u) a → All (λ m. m < u) (without eqb a (u ∷ []))
+without_below : (u : ℕ) (a : List ℕ) → AllByRecursion (λ m. m < suc u) a → AllByRecursion (λ m. m < u) (without eqb a (u ∷ []))
 without_below u [] below = tt
 without_below u (m ∷ a) below = go (without_below u a below.1) (cases_eq m u)
   where
-    go : All (λ m. m < u) (without eqb a (u ∷ [])) → (m ≡ u) ⊎ (m ≡ u → ⊥) → All (λ m. m < u) (without eqb (m ∷ a) (u ∷ []))
+    go : AllByRecursion (λ m. m < u) (without eqb a (u ∷ [])) → (m ≡ u) ⊎ (m ≡ u → ⊥) → AllByRecursion (λ m. m < u) (without eqb (m ∷ a) (u ∷ []))
     go rest (inl e) = rw (eq-eqb m u e) rest
     go rest (inr e) = rw (ne_eqb m u e) (omega (arith, below.0), rest)
 
