@@ -3,7 +3,7 @@
 
 usage: python3 tools/respell.py      at the top of the repository
 
-Words are in snake case, types and facts in camel case; a dash joins two names in a lemma's. Functions of src/, texts and
+Words are in snake case, types and facts in camel case; a dash joins two names in a lemma's. Functions of src/ and
 comments keep theirs: a name is replaced where it stands as a whole word outside a comment, in the .rt and .antt files and in
 the edits that the check must refuse.
 """
