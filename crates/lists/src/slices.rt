@@ -1,5 +1,5 @@
 // Operations over slices of ordered elements.
-ghost use Rattle.std.specs.Prelude.{◌≡◌, ◌≤◌, true, ◌++◌, length, if◌then◌else◌, Some, None};
+ghost use Rattle.std.specs.Prelude.{◌≡◌, true, ◌++◌, length, if◌then◌else◌, Some, None};
 ghost use Rattle.lists.specs.Ranges.{between, in_range};
 ghost use Rattle.lists.specs.Held.{Made};
 ghost use Rattle.lists.specs.Membership.{member, distinct};
@@ -94,7 +94,6 @@ fn is_between<T: Order>(x: &T, low: &T, high: &T) -> bool
 // How many elements of the list are from `low` to `high`, both counted: none where `low` exceeds `high`.
 pub fn between<T: Order>(list: &[T], low: &T, high: &T) -> usize
     ensures is { result ≡ between T.Order.before low.now high.now list.now }
-    ensures most { result ≤ length list.now }
     ensures none { T.Order.before high.now low.now ≡ true → result ≡ 0 }
 {
     let mut count = 0;

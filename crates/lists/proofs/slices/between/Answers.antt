@@ -1,6 +1,5 @@
 use Rattle.std.proofs.Common.{◌+◌, sym, ap, ◌∙◌, arith}
 use Rattle.std.proofs.lemmas.List.{take_all}
-use Rattle.std.proofs.lemmas.List.Sums.{count_by-le-length}
 use Rattle.lists.specs.Ranges.{between, in_range}
 use Rattle.lists.proofs.Ranges.{between_none}
 use Rattle.lists.proofs.Steps.{count_yes, count_no}
@@ -32,4 +31,4 @@ returns g c =
     let count = between g.T.Order.before low high in
     let list = c.args.list.now in
     let is = l.invariant.0 ∙ ap count (take_all l.x-index list c.loop-x-test.false) in
-    record { is = is; most = omega (arith, is, count_by-le-length (in_range g.T.Order.before low high) list); none = λ crossed. is ∙ between_none g.T.Order.same g.T.Order.before g.met.T.Order.tells g.met.T.Order.ordered low high crossed list }
+    record { is = is; none = λ crossed. is ∙ between_none g.T.Order.same g.T.Order.before g.met.T.Order.tells g.met.T.Order.ordered low high crossed list }
