@@ -1,6 +1,6 @@
 // What a doing gives.
 ghost use Rattle.std.specs.Prelude.{◌≡◌};
-ghost use Rattle.service.specs.Doings.{nothing, refused, done};
+ghost use Rattle.service.specs.Doings.{nothing, refused, done, doing_of};
 
 use crate::reply::{Code, Note, Reply};
 
@@ -9,6 +9,14 @@ use crate::reply::{Code, Note, Reply};
 pub struct Doing<S> {
     pub after: S,
     pub reply: Reply,
+    pub note: Note,
+}
+
+// An operation that is done: the service as it is afterwards, the number that it gives, and the note that undoes it.
+#[derive(Clone, Copy)]
+pub struct Done<S> {
+    pub after: S,
+    pub number: i32,
     pub note: Note,
 }
 
@@ -49,6 +57,18 @@ impl<S> Doing<S> {
                 number,
             },
             note,
+        }
+    }
+}
+
+impl<S: Copy> Doing<S> {
+    // What comes of an operation on a service: it is done, or there is a code that says why not.
+    pub fn from_outcome(service: S, outcome: Result<Done<S>, Code>) -> Doing<S>
+        ensures { result ≡ doing_of service outcome }
+    {
+        match outcome {
+            Ok(done) => Doing::done(done.after, done.number, done.note),
+            Err(code) => Doing::refused(service, code),
         }
     }
 }

@@ -34,9 +34,11 @@ pub trait Service: Copy {
     fn undo(self, note: Note) -> Option<Self>
         ensures { Undone model state (state self) note result };
 
+    // The state that a plain record means. No `From`, here and below: their contracts speak of this trait's states.
     fn from_record(plain: &Self::Record) -> Self
         ensures { state result ≡ recorded plain.now };
 
+    // A plain record that means the same state.
     fn to_record(&self) -> Self::Record
         ensures { recorded result ≡ state self.now };
 

@@ -10,7 +10,7 @@ mod interface;
 mod reply;
 mod request;
 
-pub use doing::Doing;
+pub use doing::{Doing, Done};
 pub use interface::Service;
 pub use reply::{Code, Note, Reply};
 pub use request::{Operation, Request};

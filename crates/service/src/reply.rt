@@ -7,30 +7,25 @@ use std::fmt;
 // How a doing ended.
 #[derive(Clone, Copy, PartialEq, Eq, Debug)]
 pub enum Code {
-    Done,
-    Already,
-    Full,
-    Absent,
+    Done = 0,
+    Already = 1,
+    Full = 2,
+    Absent = 3,
     // Not an operation of this service, or a channel out of range.
-    Foreign,
+    Foreign = 4,
 }
 
-impl Code {
-    // The number by which the code is known.
-    pub fn number(&self) -> u8
-        ensures { result ≡ code_number self.now }
-    {
-        match self {
-            Code::Done => 0,
-            Code::Already => 1,
-            Code::Full => 2,
-            Code::Absent => 3,
-            Code::Foreign => 4,
-        }
+// The number by which the code is known.
+impl From<Code> for u8 {
+    ghost from_gives = { λ code number. number ≡ code_number code };
+
+    fn from(code: Code) -> u8 {
+        code as u8
     }
 }
 
-// A code with its number: what the operation gives where it is done, and else 0.
+// A code with its number: what the operation gives where it is done, and else 0. Stays flat, by a rule of the project: replies
+// lie in lent records, and a client adopts a code and a number.
 #[derive(Clone, Copy, PartialEq, Eq, Debug)]
 pub struct Reply {
     pub code: Code,
@@ -38,7 +33,7 @@ pub struct Reply {
 }
 
 // How to undo a doing. Kind 0 undoes nothing; what the other kinds and the fields mean is each service's own. Fields that a
-// kind does not use are 0.
+// kind does not use are 0. Stays flat, by a rule of the project: notes lie in records, and any byte may stand there as a kind.
 #[derive(Clone, Copy, PartialEq, Eq, Debug)]
 pub struct Note {
     pub kind: u8,

@@ -10,7 +10,8 @@ pub enum Operation {
     Pop,
 }
 
-// An operation with its numbers in the order of its fields; one that it does not use is 0.
+// An operation with its numbers in the order of its fields; one that it does not use is 0. Stays flat, by a rule of the
+// project: every operation with every two numbers is a request, and each is answered.
 #[derive(Clone, Copy, PartialEq, Eq, Debug)]
 pub struct Request {
     pub operation: Operation,
