@@ -1,29 +1,65 @@
-// The notes that both services give.
+// What the notes of both services say.
 ghost use Rattle.std.specs.Prelude.{◌≡◌};
-ghost use Rattle.tables.specs.Notes.{put_in, taken_out};
+ghost use Rattle.tables.specs.Notes.{note_of, undo_of};
 
 use service::Note;
 
-// The newest element was put in.
-pub(crate) fn put_in() -> Note
-    ensures { result ≡ put_in }
-{
-    Note {
-        kind: 1,
-        place: 0,
-        value: 0,
-        channel: 0,
+// How a doing is taken back.
+#[derive(Clone, Copy, PartialEq, Eq, Debug)]
+pub(crate) enum Undo {
+    // Nothing was done.
+    Nothing,
+    // The newest element was put in.
+    PutIn,
+    // An element was taken out of a place.
+    TakenOut { place: u8, value: i32, channel: u8 },
+}
+
+// A kind of note that neither service gives.
+#[derive(Clone, Copy, PartialEq, Eq, Debug)]
+pub(crate) struct UnknownKind {
+    kind: u8,
+}
+
+impl From<Undo> for Note {
+    ghost from_gives = { λ undo note. note ≡ note_of undo };
+
+    fn from(undo: Undo) -> Note {
+        match undo {
+            Undo::Nothing => Note::nothing(),
+            Undo::PutIn => Note {
+                kind: 1,
+                ..Note::nothing()
+            },
+            Undo::TakenOut {
+                place,
+                value,
+                channel,
+            } => Note {
+                kind: 2,
+                place,
+                value,
+                channel,
+            },
+        }
     }
 }
 
-// An element was taken out of a place.
-pub(crate) fn taken_out(place: u8, value: i32, channel: u8) -> Note
-    ensures { result ≡ taken_out place value channel }
-{
-    Note {
-        kind: 2,
-        place,
-        value,
-        channel,
+impl TryFrom<Note> for Undo {
+    type Error = UnknownKind;
+
+    ghost try_from_gives = { λ note result. result ≡ undo_of note };
+
+    fn try_from(note: Note) -> Result<Undo, UnknownKind> {
+        match note.kind {
+            0 => Ok(Undo::Nothing),
+            1 => Ok(Undo::PutIn),
+            2 => Ok(Undo::TakenOut {
+                place: note.place,
+                value: note.value,
+                channel: note.channel,
+            }),
+            kind => Err(UnknownKind { kind }),
+        }
     }
 }

@@ -1,17 +1,18 @@
 // The readings table as a service.
-ghost use Rattle.std.specs.Prelude.{List};
-ghost use Rattle.service.specs.Doings.{Shows};
-ghost use Rattle.tables.specs.Readings.{put_row, drop_row, count_rows, readings};
+ghost use Rattle.std.specs.Prelude.{List, Ok};
+ghost use Rattle.service.specs.Doings.{Shows, doing_of};
+ghost use Rattle.tables.specs.Notes.{note_of};
+ghost use Rattle.tables.specs.Readings.{counted, put_row, drop_row, count_rows, operate, readings};
 ghost use Rattle.tables.specs.ReadingsRecords.{tabled, recorded};
 ghost use Rattle.tables.specs.declared.row.Row.{Row};
 ghost use Rattle.tables.specs.ReadingsLaws;
 ghost use Rattle.std.proofs.Common.{rules, arith};
 
-use crate::notes::{put_in, taken_out};
+use crate::notes::Undo;
 use crate::readings::{Readings, ReadingsRecord};
 use crate::row::Row;
 use lists::{Seq, between, is_distinct, position};
-use service::{Code, Doing, Note, Operation, Request, Service};
+use service::{Code, Doing, Done, Note, Operation, Request, Service};
 
 // What stands in the unused places of a table.
 const BLANK: Row = Row {
@@ -20,36 +21,42 @@ const BLANK: Row = Row {
 };
 
 impl Readings {
-    fn put(self, row: Row) -> Doing<Readings>
-        ensures { Shows tabled result (put_row (tabled self) row) }
+    // What is done when this is the table afterwards: its number of rows is given.
+    fn counted(self, undo: Undo) -> Done<Readings>
+        ensures { Shows tabled (doing_of self (Ok result)) (counted (tabled self) (note_of undo)) }
+    {
+        Done {
+            after: self,
+            number: self.len() as i32,
+            note: Note::from(undo),
+        }
+    }
+
+    fn put(self, row: Row) -> Result<Done<Readings>, Code>
+        ensures { Shows tabled (doing_of self result) (put_row (tabled self) row) }
     {
         if self.rows.contains(&row) {
-            return Doing::refused(self, Code::Already);
+            return Err(Code::Already);
         }
-        match self.with(row) {
-            Some(after) => Doing::done(after, after.len() as i32, put_in()),
-            None => Doing::refused(self, Code::Full),
-        }
+        let after = self.with(row).ok_or(Code::Full)?;
+        Ok(after.counted(Undo::PutIn))
     }
 
-    fn drop_row(self, row: Row) -> Doing<Readings>
-        ensures { Shows tabled result (drop_row (tabled self) row) }
+    fn drop_row(self, row: Row) -> Result<Done<Readings>, Code>
+        ensures { Shows tabled (doing_of self result) (drop_row (tabled self) row) }
     {
-        match position(self.rows(), &row) {
-            Some(at) => {
-                let after = self.without(at);
-                Doing::done(
-                    after,
-                    after.len() as i32,
-                    taken_out(at as u8, row.value, row.channel),
-                )
-            }
-            None => Doing::refused(self, Code::Absent),
-        }
+        let at = position(self.rows(), &row).ok_or(Code::Absent)?;
+        let Row { value, channel } = row;
+        let undo = Undo::TakenOut {
+            place: at as u8,
+            value,
+            channel,
+        };
+        Ok(self.without(at).counted(undo))
     }
 
-    fn count(self, window: Request) -> Doing<Readings>
-        ensures { Shows tabled result (count_rows (tabled self) window.first window.second) }
+    fn count(self, window: Request) -> Done<Readings>
+        ensures { Shows tabled (doing_of self (Ok result)) (count_rows (tabled self) window.first window.second) }
     {
         let low = Row {
             value: window.first,
@@ -60,7 +67,28 @@ impl Readings {
             channel: 255,
         };
         let count = between(self.rows(), &low, &high);
-        Doing::done(self, count as i32, Note::nothing())
+        Done {
+            after: self,
+            number: count as i32,
+            note: Note::nothing(),
+        }
+    }
+
+    // What comes of a request.
+    fn outcome(self, request: Request) -> Result<Done<Readings>, Code>
+        ensures { Shows tabled (doing_of self result) (operate (tabled self) request.operation request.first request.second) }
+    {
+        let Request {
+            operation,
+            first,
+            second,
+        } = request;
+        match operation {
+            Operation::Put => self.put(Row::named(first, second).ok_or(Code::Foreign)?),
+            Operation::Drop => self.drop_row(Row::named(first, second).ok_or(Code::Foreign)?),
+            Operation::Count => Ok(self.count(request)),
+            Operation::Push | Operation::Pop => Err(Code::Foreign),
+        }
     }
 }
 
@@ -86,32 +114,18 @@ impl Service for Readings {
     }
 
     fn perform(self, request: Request) -> Doing<Readings> {
-        match request.operation {
-            Operation::Put => match Row::named(request.first, request.second) {
-                Some(row) => self.put(row),
-                None => Doing::refused(self, Code::Foreign),
-            },
-            Operation::Drop => match Row::named(request.first, request.second) {
-                Some(row) => self.drop_row(row),
-                None => Doing::refused(self, Code::Foreign),
-            },
-            Operation::Count => self.count(request),
-            Operation::Push | Operation::Pop => Doing::refused(self, Code::Foreign),
-        }
+        Doing::from_outcome(self, self.outcome(request))
     }
 
     fn undo(self, note: Note) -> Option<Readings> {
-        match note.kind {
-            0 => Some(self),
-            1 => self.without_last(),
-            2 => self.with_at(
-                note.place as usize,
-                Row {
-                    value: note.value,
-                    channel: note.channel,
-                },
-            ),
-            _ => None,
+        match Undo::try_from(note).ok()? {
+            Undo::Nothing => Some(self),
+            Undo::PutIn => self.without_last(),
+            Undo::TakenOut {
+                place,
+                value,
+                channel,
+            } => self.with_at(place as usize, Row { value, channel }),
         }
     }
 

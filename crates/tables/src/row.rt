@@ -41,13 +41,8 @@ impl Row {
     pub fn named(channel: i32, value: i32) -> Option<Row>
         ensures { result ≡ row_of channel value }
     {
-        if channel < 0 || channel > 255 {
-            return None;
-        }
-        Some(Row {
-            value,
-            channel: channel as u8,
-        })
+        let channel = u8::try_from(channel).ok()?;
+        Some(Row { value, channel })
     }
 }
 

@@ -1,8 +1,8 @@
 // The stack as a service.
 ghost use Rattle.std.specs.Prelude.{◌≡◌, ◌≤◌, true, false, List, ◌∷◌, length, ℤ, Some, None, nat_lt};
-ghost use Rattle.service.specs.Doings.{Shows};
+ghost use Rattle.service.specs.Doings.{Shows, doing_of};
 ghost use Rattle.tables.specs.StackRecords.{stacked, recorded};
-ghost use Rattle.tables.specs.Stacks.{most, Newest, push, pop, stack};
+ghost use Rattle.tables.specs.Stacks.{most, Newest, push, pop, operate, stack};
 ghost use Rattle.tables.specs.StackLaws;
 ghost use Rattle.std.proofs.Common.{arith};
 ghost use Rattle.std.proofs.lemmas.List.{length-reverse};
@@ -10,10 +10,10 @@ ghost use Rattle.std.proofs.lemmas.Bool.{le-leb};
 ghost use Rattle.lists.specs.Held.{held};
 ghost use Rattle.lists.proofs.Held.{held-within};
 
-use crate::notes::{put_in, taken_out};
+use crate::notes::Undo;
 use crate::stack::{Stack, StackRecord};
 use lists::Seq;
-use service::{Code, Doing, Note, Operation, Request, Service};
+use service::{Code, Doing, Done, Note, Operation, Request, Service};
 
 // What stands in the unused places of a stack.
 const BLANK: i32 = 0;
@@ -47,22 +47,42 @@ impl Stack {
         self.values.len()
     }
 
-    fn push(self, value: i32) -> Doing<Stack>
-        ensures { Shows stacked result (push (stacked self) value) }
+    fn push(self, value: i32) -> Result<Done<Stack>, Code>
+        ensures { Shows stacked (doing_of self result) (push (stacked self) value) }
     {
-        match self.with(value) {
-            Some(after) => Doing::done(after, after.depth() as i32, put_in()),
-            None => Doing::refused(self, Code::Full),
-        }
+        let after = self.with(value).ok_or(Code::Full)?;
+        Ok(Done {
+            after,
+            number: after.depth() as i32,
+            note: Note::from(Undo::PutIn),
+        })
     }
 
-    fn pop(self) -> Doing<Stack>
-        ensures { Shows stacked result (pop (stacked self)) }
+    fn pop(self) -> Result<Done<Stack>, Code>
+        ensures { Shows stacked (doing_of self result) (pop (stacked self)) }
     {
         let (after, newest) = self.without();
-        match newest {
-            Some(value) => Doing::done(after, value, taken_out(0, value, 0)),
-            None => Doing::refused(self, Code::Absent),
+        let value = newest.ok_or(Code::Absent)?;
+        let undo = Undo::TakenOut {
+            place: 0,
+            value,
+            channel: 0,
+        };
+        Ok(Done {
+            after,
+            number: value,
+            note: Note::from(undo),
+        })
+    }
+
+    // What comes of a request.
+    fn outcome(self, request: Request) -> Result<Done<Stack>, Code>
+        ensures { Shows stacked (doing_of self result) (operate (stacked self) request.operation request.first) }
+    {
+        match request.operation {
+            Operation::Push => self.push(request.first),
+            Operation::Pop => self.pop(),
+            Operation::Put | Operation::Drop | Operation::Count => Err(Code::Foreign),
         }
     }
 }
@@ -89,25 +109,17 @@ impl Service for Stack {
     }
 
     fn perform(self, request: Request) -> Doing<Stack> {
-        match request.operation {
-            Operation::Push => self.push(request.first),
-            Operation::Pop => self.pop(),
-            Operation::Put | Operation::Drop | Operation::Count => Doing::refused(
-                self,
-                Code::Foreign,
-            ),
-        }
+        Doing::from_outcome(self, self.outcome(request))
     }
 
     fn undo(self, note: Note) -> Option<Stack> {
-        match note.kind {
-            0 => Some(self),
-            1 => {
+        match Undo::try_from(note).ok()? {
+            Undo::Nothing => Some(self),
+            Undo::PutIn => {
                 let (before, newest) = self.without();
                 newest.is_some().then_some(before)
             }
-            2 => self.with(note.value),
-            _ => None,
+            Undo::TakenOut { value, .. } => self.with(value),
         }
     }
 
