@@ -1,2 +1,1 @@
-pub mod Tallies
-pub mod Tables
+pub mod Trays

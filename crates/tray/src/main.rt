@@ -3,84 +3,55 @@
 
 #![tactic(auto)]
 
-ghost use Rattle.std.specs.Prelude.{◌≡◌, IfOk};
-ghost use Rattle.tray.specs.Tables.{Performed, rows_of};
-ghost use Rattle.tray.specs.Tallies.{tally_of};
+ghost use Rattle.std.specs.Prelude.{◌≡◌, List, IfOk};
+ghost use Rattle.intake.specs.Inputs.{lines_in};
+ghost use Rattle.intake.specs.Tallies.{tally_of, in_turn};
+ghost use Rattle.tables.specs.Readings.{readings};
 ghost use Rattle.tables.specs.ReadingsRecords.{tabled};
+ghost use Rattle.tables.specs.declared.row.Row.{Row};
+ghost use Rattle.tray.specs.Trays.{rows_of};
 
-use anyhow::anyhow;
-use lines::{cut, read};
-use service::{Doing, Service};
+use intake::{Desk, Tally, read_input, take_all};
+use service::{Request, Service};
 use std::io;
-use std::io::Read;
-use tables::{Readings, Row};
+use tables::Readings;
 
-// The most bytes of input that are read: one MiB.
-const MOST: u64 = 1_048_576;
-
-// How many lines were read, and how many were not.
-#[derive(Clone, Copy)]
-struct Tally {
-    read: usize,
-    faulty: usize,
-}
-
-// What a whole input leaves.
+// Does each request on a readings table, and says the reply beside it.
+#[derive(Drop)]
 struct Tray {
     table: Readings,
-    tally: Tally,
 }
 
-// Does what one line asks and says the reply beside it, or says the line's fault; answers the table afterwards if the
-// line was read.
-fn say(rt: &impl Print, number: usize, line: &[u8], table: Readings) -> io::Result<Option<Readings>>
-    ensures { IfOk result (Performed line.now (tabled table)) }
-{
-    match read(line) {
-        Ok(request) => {
-            let Doing {
-                after,
-                reply,
-                note: _,
-            } = table.perform(request);
-            println!(rt; "{number}: {request} -> {reply}")?;
-            Ok(Some(after))
-        }
-        Err(fault) => {
-            println!(rt; "{number}: {fault}")?;
-            Ok(None)
-        }
+impl Desk for Tray {
+    ghost State = { List Row };
+
+    ghost state = { λ tray. tabled tray.table };
+
+    ghost after = { λ rows request. (readings.doing rows request).after };
+
+    fn answer(&mut self, rt: &impl Print, number: usize, request: Request) -> io::Result<()> {
+        let doing = self.table.perform(request);
+        let reply = doing.reply;
+        println!(rt; "{number}: {request} -> {reply}")?;
+        self.table = doing.after;
+        Ok(())
     }
 }
 
-// Does and says each line of a text, in order, on one table. A line feed at the very end begins no further line.
-fn say_all(rt: &impl Print, text: &[u8]) -> io::Result<Tray>
-    ensures { IfOk result (λ t. (t.tally ≡ tally_of text.now) × (tabled t.table ≡ rows_of text.now)) }
+// Does and says each line of a text, in order, on an empty table.
+fn fill(rt: &impl Print, text: &[u8]) -> io::Result<(Readings, Tally)>
+    ensures { IfOk result (λ filled. (filled.1 ≡ tally_of text.now) × (tabled filled.0 ≡ rows_of text.now)) }
 {
-    let mut table: Readings = Readings::clear();
-    let mut tally = Tally { read: 0, faulty: 0 };
-    let mut rest = text;
-    while !rest.is_empty() {
-        let (line, after) = cut(rest, b'\n');
-        match say(rt, tally.read + tally.faulty + 1, line, table)? {
-            Some(next) => {
-                table = next;
-                tally.read += 1;
-            }
-            None => {
-                tally.faulty += 1;
-            }
-        }
-        rest = match after {
-            Some(more) => more,
-            None => &[],
-        };
-    }
-    Ok(Tray { table, tally })
+    let mut tray = Tray {
+        table: Readings::clear(),
+    };
+    let tally = take_all(rt, text, &mut tray)?;
+    Ok((tray.table, tally))
 }
 
 // Says the rows of a table, each on a line.
-fn say_rows(rt: &impl Print, rows: &[Row]) -> io::Result<()> {
+fn say_rows(rt: &impl Print, table: &Readings) -> io::Result<()> {
+    let rows = table.rows();
     println!(rt; "rows: {}", rows.len())?;
     for row in rows {
         println!(rt; "{row}")?;
@@ -89,15 +60,10 @@ fn say_rows(rt: &impl Print, rows: &[Row]) -> io::Result<()> {
 }
 
 fn run(rt: &HostRuntime) -> anyhow::Result<()> {
-    let mut text = Vec::new(rt.alloc());
-    rt.stdin().take(MOST + 1).read_to_end(&mut text)?;
-    if text.len() as u64 > MOST {
-        return Err(anyhow!("the input is over 1,048,576 bytes"));
-    }
-    let Tray { table, tally } = say_all(rt, text.as_slice())?;
-    let Tally { read, faulty } = tally;
-    println!(rt; "{read} read, {faulty} not read")?;
-    say_rows(rt, table.rows())?;
+    let text = read_input(rt.alloc(), rt.stdin())?;
+    let (table, tally) = fill(rt, text.as_slice())?;
+    println!(rt; "{tally}")?;
+    say_rows(rt, &table)?;
     Ok(())
 }
 
