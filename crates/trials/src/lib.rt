@@ -7,6 +7,8 @@
 mod agreement_tests;
 mod callers;
 #[cfg(test)]
+mod input_tests;
+#[cfg(test)]
 mod line_tests;
 #[cfg(test)]
 mod readings_tests;

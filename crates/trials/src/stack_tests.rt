@@ -115,9 +115,9 @@ fn every_doing_can_be_undone(rt: HostRuntime) -> Result<(), Fail> {
 
 #[test]
 fn codes_have_numbers(rt: HostRuntime) {
-    assert_eq!(rt; Code::Done.number(), 0);
-    assert_eq!(rt; Code::Already.number(), 1);
-    assert_eq!(rt; Code::Full.number(), 2);
-    assert_eq!(rt; Code::Absent.number(), 3);
-    assert_eq!(rt; Code::Foreign.number(), 4);
+    assert_eq!(rt; u8::from(Code::Done), 0);
+    assert_eq!(rt; u8::from(Code::Already), 1);
+    assert_eq!(rt; u8::from(Code::Full), 2);
+    assert_eq!(rt; u8::from(Code::Absent), 3);
+    assert_eq!(rt; u8::from(Code::Foreign), 4);
 }
