@@ -5,20 +5,16 @@ use std::process::Abort;
 use std::test::Fail;
 
 fn accepts(res: Result<(), AgreementRefusal>) -> Result<(), Fail> {
-    match res {
-        Ok(_) => Ok(()),
-        Err(_) => Err(Fail::new("a call that should be accepted is not")),
-    }
+    res.or(Err(Fail::new("a call that should be accepted is not")))
 }
 
-fn refuses(rt: &impl Abort, res: Result<(), AgreementRefusal>, number: u8) -> Result<(), Fail> {
-    match res {
-        Ok(_) => Err(Fail::new("a call that should be refused is not")),
-        Err(refusal) => {
-            assert_eq!(rt; refusal.number(), number);
-            Ok(())
-        },
-    }
+fn refuses<T: Drop>(
+    rt: &impl Abort,
+    res: Result<T, AgreementRefusal>,
+    number: u8,
+) -> Result<(), Fail> {
+    assert_eq!(rt; res.err().map(u8::from), Some(number));
+    Ok(())
 }
 
 fn same(rt: &impl Abort, set: BoardSet, boards: BoardSet) -> Result<(), Fail> {
@@ -33,24 +29,8 @@ fn answers(
     res: Result<BoardSet, AgreementRefusal>,
     boards: BoardSet,
 ) -> Result<(), Fail> {
-    match res {
-        Ok(set) => same(rt, set, boards),
-        Err(_) => Err(Fail::new("a learn that should be accepted is not")),
-    }
-}
-
-fn withholds(
-    rt: &impl Abort,
-    res: Result<BoardSet, AgreementRefusal>,
-    number: u8,
-) -> Result<(), Fail> {
-    match res {
-        Ok(_) => Err(Fail::new("a learn that should be refused is not")),
-        Err(refusal) => {
-            assert_eq!(rt; refusal.number(), number);
-            Ok(())
-        },
-    }
+    let set = res.or(Err(Fail::new("a learn that should be accepted is not")))?;
+    same(rt, set, boards)
 }
 
 fn boards(numbers: &[usize]) -> BoardSet {
@@ -96,10 +76,10 @@ fn majorities_of_each_number(rt: HostRuntime) {
 
 #[test]
 fn refusals_have_numbers(rt: HostRuntime) {
-    assert_eq!(rt; AgreementRefusal::Size.number(), 1);
-    assert_eq!(rt; AgreementRefusal::Unknown.number(), 4);
-    assert_eq!(rt; AgreementRefusal::Already.number(), 8);
-    assert_eq!(rt; AgreementRefusal::TooFew.number(), 11);
+    assert_eq!(rt; u8::from(AgreementRefusal::Size), 1);
+    assert_eq!(rt; u8::from(AgreementRefusal::Unknown), 4);
+    assert_eq!(rt; u8::from(AgreementRefusal::Already), 8);
+    assert_eq!(rt; u8::from(AgreementRefusal::TooFew), 11);
 }
 
 // Below, at and past the majority, asked after each proposal: both kinds decide the same.
@@ -111,7 +91,7 @@ fn at_the_majority<A: Agreement>(
 ) -> Result<(), Fail> {
     accepts(a.clear(n))?;
     for board in 0..majority {
-        withholds(rt, a.learn(15), 11)?;
+        refuses(rt, a.learn(15), 11)?;
         accepts(a.propose(15, board))?;
     }
     for board in majority..n {
@@ -140,23 +120,20 @@ fn each_kind_asked_once(rt: HostRuntime) -> Result<(), Fail> {
         answers(&rt, ask_all(&mut first, n, 0), BoardSet::below(majority))?;
         answers(&rt, ask_all(&mut late, n, 0), BoardSet::below(n))?;
     }
-    withholds(&rt, ask_all(&mut first, 0, 0), 1)?;
-    withholds(&rt, ask_all(&mut late, 8, 16), 1)?;
-    withholds(&rt, ask_all(&mut first, 7, 16), 4)?;
-    withholds(&rt, ask_all(&mut late, 7, 16), 4)
+    refuses(&rt, ask_all(&mut first, 0, 0), 1)?;
+    refuses(&rt, ask_all(&mut late, 8, 16), 1)?;
+    refuses(&rt, ask_all(&mut first, 7, 16), 4)?;
+    refuses(&rt, ask_all(&mut late, 7, 16), 4)
 }
 
 fn asked_twice<A: Agreement>(rt: &impl Abort, a: &mut A) -> Result<(), Fail> {
     accepts(a.clear(3))?;
     accepts(a.propose(2, 2))?;
     accepts(a.propose(2, 0))?;
-    match ask_twice(a, 2, 2, 1) {
-        Ok((before, after)) => {
-            same(rt, before, boards(&[0, 2]))?;
-            same(rt, after, before)
-        }
-        Err(_) => Err(Fail::new("a learn that should be accepted is not")),
-    }
+    let asked = ask_twice(a, 2, 2, 1);
+    let (before, after) = asked.or(Err(Fail::new("a learn that should be accepted is not")))?;
+    same(rt, before, boards(&[0, 2]))?;
+    same(rt, after, before)
 }
 
 #[test]
@@ -172,15 +149,15 @@ fn limits<A: Agreement>(rt: &impl Abort, a: &mut A) -> Result<(), Fail> {
     accepts(a.clear(3))?;
     refuses(rt, a.propose(16, 0), 4)?;
     refuses(rt, a.propose(15, 3), 4)?;
-    withholds(rt, a.learn(16), 4)?;
-    withholds(rt, a.learn(15), 11)?;
+    refuses(rt, a.learn(16), 4)?;
+    refuses(rt, a.learn(15), 11)?;
     accepts(a.propose(15, 2))?;
     refuses(rt, a.propose(15, 2), 8)?;
     refuses(rt, a.propose(16, 2), 4)?;
     accepts(a.propose(14, 2))?;
-    withholds(rt, a.learn(15), 11)?;
+    refuses(rt, a.learn(15), 11)?;
     accepts(a.propose(15, 1))?;
-    withholds(rt, a.learn(14), 11)?;
+    refuses(rt, a.learn(14), 11)?;
     answers(rt, a.learn(15), boards(&[1, 2]))
 }
 
@@ -200,7 +177,7 @@ fn cleared_between<A: Agreement>(rt: &impl Abort, a: &mut A) -> Result<(), Fail>
     refuses(rt, a.clear(8), 1)?;
     answers(rt, a.learn(1), boards(&[0, 3, 4]))?;
     accepts(a.clear(2))?;
-    withholds(rt, a.learn(1), 11)?;
+    refuses(rt, a.learn(1), 11)?;
     refuses(rt, a.propose(1, 4), 4)?;
     accepts(a.propose(1, 0))?;
     accepts(a.propose(1, 1))?;
@@ -218,7 +195,7 @@ fn asked_late<A: Agreement>(rt: &impl Abort, a: &mut A, decided: BoardSet) -> Re
     accepts(a.clear(5))?;
     accepts(a.propose(3, 4))?;
     accepts(a.propose(3, 1))?;
-    withholds(rt, a.learn(3), 11)?;
+    refuses(rt, a.learn(3), 11)?;
     accepts(a.propose(3, 0))?;
     accepts(a.propose(3, 2))?;
     answers(rt, a.learn(3), decided)?;

@@ -35,10 +35,8 @@ pub fn ask_twice<A: Agreement>(
 {
     let before = asked.learn(epoch)?;
     let _ = asked.propose(later, board);
-    match asked.learn(epoch) {
-        Ok(after) => Ok((before, after)),
-        Err(refusal) => Err(refusal),
-    }
+    let after = asked.learn(epoch)?;
+    Ok((before, after))
 }
 
 // Does what a request asks, and undoes it: the note always fits, and the state is as before.

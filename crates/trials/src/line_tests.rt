@@ -11,20 +11,13 @@ fn reads(
     first: i32,
     second: i32,
 ) -> Result<(), Fail> {
-    match read(line) {
-        Ok(request) => {
-            assert_eq!(rt;
-                request,
-                Request {
-                    operation,
-                    first,
-                    second,
-                }
-            );
-            Ok(())
-        },
-        Err(_) => Err(Fail::new("a line that should be read is not")),
-    }
+    let wanted = Request {
+        operation,
+        first,
+        second,
+    };
+    assert_eq!(rt; read(line), Ok(wanted));
+    Ok(())
 }
 
 fn faults(
@@ -34,20 +27,13 @@ fn faults(
     field: usize,
     offset: usize,
 ) -> Result<(), Fail> {
-    match read(line) {
-        Ok(_) => Err(Fail::new("a line that should not be read is")),
-        Err(fault) => {
-            assert_eq!(rt;
-                fault.report(),
-                Report {
-                    cause,
-                    field,
-                    offset,
-                }
-            );
-            Ok(())
-        },
-    }
+    let wanted = Report {
+        cause,
+        field,
+        offset,
+    };
+    assert_eq!(rt; read(line).map_err(Report::from), Err(wanted));
+    Ok(())
 }
 
 #[test]
@@ -174,9 +160,7 @@ fn long_lines(rt: HostRuntime) -> Result<(), Fail> {
 #[test]
 fn fields_with_their_places(rt: HostRuntime) -> Result<(), Fail> {
     let line = b"put;4;-0.75";
-    let Some(value) = field(line, 2) else {
-        return Err(Fail::new("field 2 is there"));
-    };
+    let value = field(line, 2).ok_or(Fail::new("field 2 is there"))?;
     assert_eq!(rt; value.number, 2);
     assert_eq!(rt; value.start, 6);
     assert!(rt; value.bytes == b"-0.75".as_slice());

@@ -1,6 +1,6 @@
 // The readings table: what each request must give and leave, and what its undo must give back.
 use crate::callers::there_and_back;
-use crate::requests::{ask, note, performed, put, refused};
+use crate::requests::{ask, note, performed, put, refused, undone};
 use service::{Code, Note, Operation, Service};
 use std::process::Abort;
 use std::test::Fail;
@@ -36,10 +36,7 @@ fn dropped(rt: &impl Abort, channel: u8, value: i32, place: u8, left: &[Row]) ->
         channel,
     };
     assert_eq!(rt; note, expected);
-    match after.undo(note) {
-        Some(back) => holds(rt, back, table.rows()),
-        None => Err(Fail::new("the note of a drop fits")),
-    }
+    holds(rt, undone(after, note)?, table.rows())
 }
 
 #[test]
@@ -63,10 +60,7 @@ fn rows_go_in_and_out(rt: HostRuntime) -> Result<(), Fail> {
     };
     assert_eq!(rt; note, expected);
     let twice = refused(&rt, after, put(2, 7), Code::Already);
-    match twice.undo(note) {
-        Some(back) => holds(&rt, back, three().rows()),
-        None => Err(Fail::new("the note of a put fits")),
-    }
+    holds(&rt, undone(twice, note)?, three().rows())
 }
 
 // A table of the values 0 to count - 1 on channel 9.
@@ -92,13 +86,9 @@ fn tables_have_32_rows(rt: HostRuntime) -> Result<(), Fail> {
         channel: 9,
     };
     assert!(rt; full.undo(back).is_none());
-    match full.undo(note) {
-        Some(less) => {
-            assert_eq!(rt; less.rows(), filled(31).rows());
-            Ok(())
-        },
-        None => Err(Fail::new("the note of a put fits")),
-    }
+    let less = undone(full, note)?;
+    assert_eq!(rt; less.rows(), filled(31).rows());
+    Ok(())
 }
 
 fn counts(rt: &impl Abort, table: Readings, low: i32, high: i32, expected: i32) {
@@ -160,10 +150,7 @@ fn tables_do_not_stack(rt: HostRuntime) -> Result<(), Fail> {
 }
 
 fn undoes(rt: &impl Abort, table: Readings, note: Note, expected: &[Row]) -> Result<(), Fail> {
-    match table.undo(note) {
-        Some(back) => holds(rt, back, expected),
-        None => Err(Fail::new("a note that should fit does not")),
-    }
+    holds(rt, undone(table, note)?, expected)
 }
 
 #[test]
@@ -225,8 +212,10 @@ fn records_of_tables(rt: HostRuntime) -> Result<(), Fail> {
 
 #[test]
 fn every_doing_can_be_undone(rt: HostRuntime) -> Result<(), Fail> {
-    match there_and_back(three(), ask(Operation::Drop, 2, 7)) {
-        Some(back) => holds(&rt, back, three().rows()),
-        None => Err(Fail::new("a doing's note fits")),
-    }
+    let back = there_and_back(three(), ask(Operation::Drop, 2, 7));
+    holds(
+        &rt,
+        back.ok_or(Fail::new("a doing's note fits"))?,
+        three().rows(),
+    )
 }

@@ -1,6 +1,7 @@
 // Requests of services, and what each must give.
 use service::{Code, Doing, Note, Operation, Reply, Request, Service};
 use std::process::Abort;
+use std::test::Fail;
 
 pub(crate) fn ask(operation: Operation, first: i32, second: i32) -> Request {
     Request {
@@ -41,4 +42,9 @@ pub(crate) fn refused<S: Service>(rt: &impl Abort, service: S, request: Request,
     let (after, note) = performed(rt, service, request, code, 0);
     assert_eq!(rt; note, Note::nothing());
     after
+}
+
+// The service before the doing that a note is of.
+pub(crate) fn undone<S: Service>(service: S, note: Note) -> Result<S, Fail> {
+    service.undo(note).ok_or(Fail::new("the note fits"))
 }

@@ -1,6 +1,6 @@
 // The stack: what each request must give and leave, and what its undo must give back.
 use crate::callers::there_and_back;
-use crate::requests::{ask, note, performed, put, refused};
+use crate::requests::{ask, note, performed, put, refused, undone};
 use service::{Code, Operation, Request, Service};
 use std::process::Abort;
 use std::test::Fail;
@@ -33,20 +33,12 @@ fn stacks_have_16_values(rt: HostRuntime) -> Result<(), Fail> {
     let (less, second) = performed(&rt, full, ask(Operation::Pop, 0, 0), Code::Done, -750);
     assert_eq!(rt; second, note(2, 0, -750, 0));
     deep(&rt, less, 15)?;
-    match less.undo(second) {
-        Some(back) => {
-            deep(&rt, back, 16)?;
-            performed(&rt, back, ask(Operation::Pop, 0, 0), Code::Done, -750);
-        }
-        None => return Err(Fail::new("the note of a pop fits")),
-    }
-    match full.undo(first) {
-        Some(back) => {
-            deep(&rt, back, 15)?;
-            performed(&rt, back, ask(Operation::Pop, 0, 0), Code::Done, 15);
-        }
-        None => return Err(Fail::new("the note of a push fits")),
-    }
+    let back = undone(less, second)?;
+    deep(&rt, back, 16)?;
+    performed(&rt, back, ask(Operation::Pop, 0, 0), Code::Done, -750);
+    let back = undone(full, first)?;
+    deep(&rt, back, 15)?;
+    performed(&rt, back, ask(Operation::Pop, 0, 0), Code::Done, 15);
     Ok(())
 }
 
@@ -107,10 +99,8 @@ fn records_of_stacks(rt: HostRuntime) {
 
 #[test]
 fn every_doing_can_be_undone(rt: HostRuntime) -> Result<(), Fail> {
-    match there_and_back(stack(16), ask(Operation::Pop, 0, 0)) {
-        Some(back) => deep(&rt, back, 16),
-        None => Err(Fail::new("a doing's note fits")),
-    }
+    let back = there_and_back(stack(16), ask(Operation::Pop, 0, 0));
+    deep(&rt, back.ok_or(Fail::new("a doing's note fits"))?, 16)
 }
 
 #[test]

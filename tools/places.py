@@ -1,0 +1,77 @@
+#!/usr/bin/env python3
+"""Lists the places of src/ in which one of seven older forms stands, or of proofs/ in which an answer does.
+
+    python3 tools/places.py            of the files as they stand
+    python3 tools/places.py COMMIT     of a commit
+
+Each line is 'POINT FILE:LINE: TEXT'; the last lines count the places of each point. A place is found by its text, so what a
+line means is for the reader; docs/DESIGN-PASS.md says it of each.
+"""
+import re
+import subprocess
+import sys
+
+FUNCTION = re.compile(r'^\s*(pub(\(crate\))? )?fn (\w+)')
+
+POINTS = {
+    1: ('kinds, causes and refusals as numbers; a flag, a code or a count in place of Option or Result', [
+        r'\b(kind|cause): (u8|[0-9])', r'match note\.kind', r'pub (operation: Operation|code: Code),$',
+        r'Result<\w+, (u8|u32|usize)>$', r'fn try_\w+.*-> bool', r'-> io::Result<bool>', r'Doing::refused\($|Doing::refused\(self',
+        r'-> Option<Seq<', r'let Some\(.*\) = .* else \{$', r'fn \w+\(.*-> \(.*Option<',
+    ]),
+    2: ('types, constants and functions that differ only in a type, a size or a constant', [
+        r'^pub struct (First|Late|ReadingsRecord|StackRecord) ', r'^impl (First|Late) ', r'^const (BLANK|MOST)\b', r'^struct Tally',
+        r'^fn (say|say_all|run|channel_at|value_at|positive|negative)\b', r'^impl Agreement for ', r'fn (from|to)_record\(.*(Readings|Stack)',
+        r'fn to_record\(&self\) -> \w+Record', r'Operation::(Put|Drop) => match',
+    ]),
+    3: ('loops', [r'^\s*(for|while|loop)\b.*\{$']),
+    4: ('equality, order, copies and conversions by hand', [
+        r'^impl.* (Clone|Copy|PartialEq|Eq|PartialOrd|Ord|Order) for ', r'fn (is_same|is_before|at_most|is_word|number|report|named|operation_named)\(',
+        r'fn (put_in|taken_out)\(', r'fn (from_record|to_record|to_array)\(',
+    ]),
+    5: ('a fact in three contracts or more, and parameters that travel together', [
+        r'ensures blank \{', r'(size|_size) (\w*_)?proposed (\w*_)?decided', r'\(?1 ≤ n\b|\bn ≤ 7\b', r'\(field: usize, (text|size):',
+        r'blank: T\) ->',
+    ]),
+    6: ('arrays with a length beside them, and parallel arrays', [
+        r'^\s+(pub(\(crate\))? )?\w+: \[[^\]]*; \w+\],$', r'^\s+(pub(\(crate\))? )?\w+: Seq<',
+    ]),
+    7: ('switches on which step to run, and tables of functions', [
+        r'match (request\.|self\.)?operation \{', r'match note\.kind', r': fn\(|dyn |else if is_word',
+    ]),
+}
+
+
+def files(commit, where):
+    if commit:
+        names = subprocess.check_output(['git', 'ls-tree', '-r', '--name-only', commit, 'crates'], text=True).split()
+    else:
+        names = subprocess.check_output(['git', 'ls-files', 'crates'], text=True).split()
+    return [name for name in names if where in name]
+
+
+def text(commit, name):
+    if commit:
+        return subprocess.check_output(['git', 'show', f'{commit}:{name}'], text=True)
+    return open(name).read()
+
+
+def main():
+    commit = sys.argv[1] if len(sys.argv) > 1 else None
+    counts = dict.fromkeys(POINTS, 0)
+    for name in files(commit, '/src/'):
+        for at, line in enumerate(text(commit, name).splitlines(), 1):
+            for point, (_, patterns) in POINTS.items():
+                if any(re.search(pattern, line) for pattern in patterns):
+                    counts[point] += 1
+                    print(f'{point} {name}:{at}: {line.strip()}')
+    answers = [name for name in files(commit, '/proofs/') if name.endswith('Answers.antt')]
+    goals = sum(len(re.findall(r'^pub \S+ : ', text(commit, name), re.M)) for name in answers)
+    lemmas = [name for name in files(commit, '/proofs/') if name.count('/') == 3 and not name.endswith('Lib.antt')]
+    lines = sum(text(commit, name).count('\n') for name in files(commit, '/proofs/'))
+    for point, (what, _) in POINTS.items():
+        print(f'point {point}: {counts[point]} places: {what}')
+    print(f'point 8: {goals} answers in {len(answers)} files, {len(lemmas)} files of lemmas, {lines} lines in proofs/')
+
+
+main()
