@@ -1,60 +1,31 @@
--- Laws of what a sequence of bounded length holds: its unused places, and that equal contents are equal records.
-use Rattle.std.proofs.Common.{◌≡◌, ℕ, suc, ◌+◌, ◌-◌, ◌<◌, ◌≤◌, Bool, cond, ltb, List, [], ◌∷◌, ◌++◌, length, get_or, take, drop, set, replicate, Some, None, Option, sym, ap, ◌∙◌, ap₂, arith}
-use mathlib.Core.List.{is_set}
-use mathlib.Core.HLevel.{is_prop→PathP}
-use native.Mathlib.Nat.{ℕ_set}
-use native.Mathlib.Bridge.{le_prop}
-use Rattle.std.proofs.lemmas.List.{drop-set, drop-set-lt, drop-drop, drop-replicate, length-take-le, take-append-drop, take-set, take_more, take-append-le, length_push}
-use Rattle.std.proofs.lemmas.Bool.{cond-true, lt-ltb}
-use Rattle.lists.specs.declared.seq.Seq.{Seq}
-use Rattle.lists.specs.Held.{held, Popped}
-
-pub held-length : {T : Type 0} {n : ℕ} (s : Seq T n) → length (held s) ≡ s.len
-held-length s = length-take-le s.len s.items (omega (arith, s.full, s.within))
-
-pub held-within : {T : Type 0} {n : ℕ} (s : Seq T n) → length (held s) ≤ n
-held-within s = omega (arith, held-length s, s.within)
+-- Laws of what a sequence of bounded length holds: its unused places, and what is left without its last element.
+use Rattle.std.proofs.Common.{◌≡◌, ℕ, suc, ◌+◌, ◌-◌, ◌<◌, ◌≤◌, true, false, ◌⊎◌, inl, inr, List, [], ◌∷◌, length, take, drop, set, replicate, Some, None, Option, Ok, Err, Result, IsOk, IsErr, ◌↔◌, sym, ap, ◌∙◌, arith, length-drop}
+use Rattle.std.proofs.lemmas.List.{drop-set, drop-set-lt, drop-drop, drop-replicate, take-append-le, length-set, length_push, length-take-le}
+use Rattle.std.proofs.lemmas.Bool.{cases_lt, true≢false}
+use Rattle.std.proofs.lemmas.Slice.{drop-put_mid}
+use borrow.Rule.Slice.PartMut.{put_mid, mid_of, same_len_mid}
+use Rattle.lists.specs.Filling.{Filled}
+use Rattle.lists.specs.Held.{Contents, Made, Popped}
 
 -- the unused places after one more element, and after one less
-module _ {T : Type 0} (items : List T) (len n : ℕ) (blank : T) (rest : drop len items ≡ replicate (n - len) blank) where
-  pub rest-push : (x : T) → drop (len + 1) (set items len x) ≡ replicate (n - (len + 1)) blank
-  rest-push x =
-      drop-set-lt (len + 1) items len x (omega arith) ∙ sym (drop-drop 1 len items) ∙ ap (drop 1) rest ∙ drop-replicate 1 (n - len) blank ∙ ap (λ k. replicate k blank) (omega arith)
+pub filled-push : {T : Type 0} {items : List T} {len n : ℕ} {blank : T} (x : T) → Filled items len n blank → len < n → Filled (set items len x) (len + 1) n blank
+filled-push {T} {items} {len} {n} {blank} x f room =
+    record {
+      within = omega arith;
+      full = simp length-set f.full;
+      rest =
+          drop-set-lt (len + 1) items len x (omega arith) ∙ sym (drop-drop 1 len items) ∙ ap (drop 1) f.rest ∙ drop-replicate 1 (n - len) blank ∙ ap (λ k. replicate k blank) (omega arith);
+    }
 
-  pub rest-pop : 0 < len → len ≤ n → length items ≡ n → drop (len - 1) (set items (len - 1) blank) ≡ replicate (n - (len - 1)) blank
-  rest-pop some within full =
-      let before : len - 1 + 1 ≡ len = omega arith in
-      let more : suc (n - len) ≡ n - (len - 1) = omega arith in
-      drop-set items (len - 1) blank (omega arith) ∙ ap (λ k. blank ∷ drop k items) before ∙ ap (λ l. blank ∷ l) rest ∙ ap (λ k. replicate k blank) more
-
--- the last element stood behind what is left
-pub held-pop : {T : Type 0} (items : List T) (len : ℕ) (blank d : T) → 0 < len → len ≤ length items
-    → take len items ≡ take (len - 1) (set items (len - 1) blank) ++ get_or items (len - 1) d ∷ []
-held-pop items len blank d some within =
-    let before : len ≡ len - 1 + 1 = omega arith in
-    ap (λ k. take k items) before ∙ take_more items (len - 1) d (omega arith) ∙ ap (λ l. l ++ get_or items (len - 1) d ∷ []) (sym (take-set items (len - 1) blank))
-
--- a list is known by a front of it and by the rest
-whole : {T : Type 0} (xs ys : List T) (m n c : ℕ) (d e : T) → length xs ≡ c → length ys ≡ c → m ≤ c → n ≤ c → drop m xs ≡ replicate (c - m) d → drop n ys ≡ replicate (c - n) e → d ≡ e → take m xs ≡ take n ys
-    → (xs ≡ ys) × (m ≡ n)
-whole xs ys m n c d e lx ly hm hn rx ry de t =
-    let lm : length (take m xs) ≡ m = length-take-le m xs (omega arith) in
-    let ln : length (take n ys) ≡ n = length-take-le n ys (omega arith) in
-    let lt : length (take m xs) ≡ length (take n ys) = ap length t in
-    let mn : m ≡ n = omega arith in
-    (sym (take-append-drop m xs) ∙ ap₂ ◌++◌ t (rx ∙ ap₂ (λ k z. replicate (c - k) z) mn de ∙ sym ry) ∙ take-append-drop n ys, mn)
-
--- sequences with equal contents over one blank are one record
-pub held-known : {T : Type 0} {n : ℕ} → IsSet T → (a b : Seq T n) → held a ≡ held b → a.blank ≡ b.blank → a ≡ b
-held-known {T} {n} s a b t e =
-    let w : (a.items ≡ b.items) × (a.len ≡ b.len) = whole a.items b.items a.len b.len n a.blank b.blank a.full b.full a.within b.within a.rest b.rest e t in
-    λ i. record {
-      items = w.0 i;
-      len = w.1 i;
-      blank = e i;
-      within = is_prop→PathP (λ j. w.1 j ≤ n) (λ j. le_prop) a.within b.within i;
-      full = is_prop→PathP (λ j. length (w.0 j) ≡ n) (λ j. ℕ_set _ _) a.full b.full i;
-      rest = is_prop→PathP (λ j. drop (w.1 j) (w.0 j) ≡ replicate (n - w.1 j) (e j)) (λ j. is_set s _ _) a.rest b.rest i;
+pub filled-pop : {T : Type 0} {items : List T} {len n : ℕ} {blank : T} → Filled items len n blank → 0 < len → Filled (set items (len - 1) blank) (len - 1) n blank
+filled-pop {T} {items} {len} {n} {blank} f some =
+    let before : len - 1 + 1 ≡ len = omega arith in
+    let more : suc (n - len) ≡ n - (len - 1) = omega arith in
+    record {
+      within = omega arith;
+      full = simp length-set f.full;
+      rest =
+          drop-set items (len - 1) blank (omega arith) ∙ ap (λ k. blank ∷ drop k items) before ∙ ap (λ l. blank ∷ l) f.rest ∙ ap (λ k. replicate k blank) more;
     }
 
 -- what taking the last element off leaves in front
@@ -68,6 +39,34 @@ module _ {T : Type 0} where
   popped-length (Some x) was left p h = omega (arith, ap length p, length_push left x)
   popped-length None was left p h = absurd (omega (arith, ap length p.0))
 
-  -- a push for which there was a place
-  pub pushed : (r : Bool) (was left : List T) (n : ℕ) (x : T) → r ≡ ltb (length was) n → left ≡ cond r (was ++ x ∷ []) was → length was < n → left ≡ was ++ x ∷ []
-  pushed r was left n x e h lt = h ∙ cond-true r _ _ (e ∙ lt-ltb _ _ lt)
+-- a part of the places from `a` on written over, up to the new length
+pub filled-put : {T : Type 0} {items : List T} {len n : ℕ} {blank : T} (a k : ℕ) (ys : List T) (now : ℕ) → Filled items len n blank → a ≤ len → len ≤ now → now ≡ a + k → now ≤ n → length ys ≡ length (mid_of a k items)
+    → Filled (put_mid a k items ys) now n blank
+filled-put {T} {items} {len} {n} {blank} a k ys now f from more is room same =
+    let long : length ys ≡ k = same ∙ length-take-le k (drop a items) (omega (arith, length-drop a items, f.full)) in
+    record {
+      within = room;
+      full = same_len_mid a k items ys same ∙ f.full;
+      rest =
+          drop-put_mid a k items ys now (omega arith) (omega (arith, f.full)) long ∙ ap (λ m. drop m items) (omega arith) ∙ sym (drop-drop (now - len) len items) ∙ ap (drop (now - len)) f.rest ∙ drop-replicate (now - len) (n - len) blank ∙ ap (λ m. replicate m blank) (omega arith);
+    }
+
+-- what a refusal says of the lengths: there was no place for one more, or not for all
+pub full-push : {a n : ℕ} → (a < n → false ≡ true) → n ≤ a
+full-push {a} {n} h = go (cases_lt a n)
+  where
+    go : (a < n) ⊎ (n ≤ a) → n ≤ a
+    go (inl lt) = absurd (true≢false (sym (h lt)))
+    go (inr le) = le
+
+pub full-extend : {a n : ℕ} → (a ≤ n → false ≡ true) → n < a
+full-extend {a} {n} h = let over : n + 1 ≤ a = full-push (λ lt. h (omega arith)) in omega arith
+
+-- a refusal passed on: a list that is too long for a new sequence, and a change that does not fit
+pub refused-made : {T E : Type 0} {n : ℕ} (r : Result (Contents T) E) (xs : List T) (blank : T) → IsErr r → n < length xs → Made n r xs blank
+refused-made (Ok s) xs blank e long = absurd (true≢false (sym e))
+refused-made (Err x) xs blank e long = long
+
+pub refused-fits : {T E P : Type 0} (r : Result T E) → IsErr r → ¬ P → IsOk r ↔ P
+refused-fits (Ok x) e never = absurd (true≢false (sym e))
+refused-fits (Err x) e never = (λ h. absurd (true≢false (sym h)), λ p. absurd (never p))

@@ -6,5 +6,6 @@ pub mod Beginnings
 pub mod Places
 pub mod Ranges
 pub mod Held
+pub mod Filling
 pub mod Splits
 pub mod Laws

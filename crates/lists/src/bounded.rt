@@ -1,17 +1,16 @@
-// Making, reading and changing a sequence of bounded length.
-ghost use Rattle.std.specs.Prelude.{◌≡◌, ◌+◌, ◌-◌, [], ◌∷◌, ◌++◌, length, take, drop, replicate, if◌then◌else◌, ◌==◌, nat_le, nat_lt};
-ghost use Rattle.lists.specs.Held.{held, Popped};
-ghost use Rattle.lists.specs.Membership.{member};
+// Making and changing a sequence of bounded length.
+ghost use Rattle.std.specs.Prelude.{◌≡◌, ◌<◌, ◌≤◌, ◌↔◌, [], ◌∷◌, ◌++◌, length, take, if◌then◌else◌, IsOk, is_ok};
+ghost use Rattle.lists.specs.Held.{holding, Popped};
 ghost use Rattle.lists.specs.Merging.{merged_into};
 
+use crate::full::Full;
 use crate::ordering::Order;
 use crate::seq::Seq;
-use crate::slices::contains;
 
 impl<T: Copy, const N: usize> Seq<T, N> {
     // No elements: each place holds `blank`.
     pub fn new(blank: T) -> Seq<T, N>
-        ensures held { held result ≡ [] }
+        ensures held { result.held ≡ [] }
         ensures blank { result.blank ≡ blank }
     {
         Seq {
@@ -21,115 +20,71 @@ impl<T: Copy, const N: usize> Seq<T, N> {
         }
     }
 
-    pub fn len(&self) -> usize
-        ensures { result ≡ length (held self.now) }
+    // Puts `x` behind the others, if there is a place for it.
+    pub fn try_push(&mut self, x: T) -> Result<(), Full>
+        ensures fits { IsOk result ↔ (length self.old.held < N) }
+        ensures held { self.new ≡ (if is_ok result then holding (self.old.held ++ x ∷ []) self.old else self.old) }
     {
-        self.as_slice().len()
-    }
-
-    pub fn is_empty(&self) -> bool
-        ensures { result ≡ (length (held self.now) == 0) }
-    {
-        self.len == 0
-    }
-
-    pub fn as_slice(&self) -> &[T]
-        ensures { result.now ≡ held self.now }
-    {
-        let all = &self.items[..];
-        &all[0..self.len]
-    }
-
-    // Puts `x` behind the others, and answers whether there was a place for it.
-    pub fn try_push(&mut self, x: T) -> bool
-        ensures fits { result ≡ nat_lt (length (held self.old)) N }
-        ensures held { held self.new ≡ (if result then held self.old ++ (x ∷ []) else held self.old) }
-        ensures blank { self.new.blank ≡ self.old.blank }
-    {
-        if self.len < N {
-            self.items[self.len] = x;
-            self.len += 1;
-            true
-        } else {
-            false
+        if self.len >= N {
+            return Err(Full);
         }
+        self.items[self.len] = x;
+        self.len += 1;
+        Ok(())
     }
 
     // Takes the last element off, and writes the blank in its place.
     pub fn pop(&mut self) -> Option<T>
-        ensures held { Popped result (held self.old) (held self.new) }
+        ensures held { Popped result self.old.held self.new.held }
         ensures blank { self.new.blank ≡ self.old.blank }
     {
-        if self.is_empty() {
-            return None;
-        }
-        let last = self.items[self.len - 1];
-        self.items[self.len - 1] = self.blank;
+        let last = *self.as_slice().last()?;
         self.len -= 1;
+        self.items[self.len] = self.blank;
         Some(last)
     }
 
-    // Keeps the first `len` elements, or all where there are no more.
+    // Keeps the first `len` elements, or all where there are no more. A loop, since a slice's `fill` promises of a `T: Copy`
+    // no more than that its clones stand there.
     pub fn truncate(&mut self, len: usize)
-        ensures held { held self.new ≡ take len (held self.old) }
-        ensures blank { self.new.blank ≡ self.old.blank }
+        ensures { self.new ≡ holding (take len self.old.held) self.old }
     {
         while self.len > len {
+            // there is one to take off, as more than `len` are left
             let _ = self.pop();
         }
     }
 
-    // Puts all of `more` behind the others if they fit, and else nothing; answers whether they fitted.
-    pub fn try_extend(&mut self, more: &[T]) -> bool
-        ensures fits { result ≡ nat_le (length (held self.old ++ more.now)) N }
-        ensures held { held self.new ≡ (if result then held self.old ++ more.now else held self.old) }
-        ensures blank { self.new.blank ≡ self.old.blank }
+    // Puts all of `more` behind the others if they fit, and else nothing.
+    pub fn try_extend(&mut self, more: &[T]) -> Result<(), Full>
+        ensures fits { IsOk result ↔ (length (self.old.held ++ more.now) ≤ N) }
+        ensures held { self.new ≡ (if is_ok result then holding (self.old.held ++ more.now) self.old else self.old) }
     {
         if more.len() > N - self.len {
-            return false;
+            return Err(Full);
         }
-        for x in more {
-            let _ = self.try_push(*x);
-        }
-        true
+        let all = &mut self.items[..];
+        all[self.len..self.len + more.len()].copy_from_slice(more);
+        self.len += more.len();
+        Ok(())
     }
-
-    // Every place of the sequence: its elements, and the blank in each place past them.
-    pub fn to_array(&self) -> [T; N]
-        ensures held { take (length (held self.now)) result ≡ held self.now }
-        ensures rest { drop (length (held self.now)) result ≡ replicate (N - length (held self.now)) self.now.blank }
-    {
-        let items = self.items;
-        items
-    }
-
-    // Two sequences with equal contents, over the same blank, are equal in every byte.
-    pub fn known_by_contents(&self, other: &Seq<T, N>)
-        ensures { held self.now ≡ held other.now → self.now.blank ≡ other.now.blank → self.now ≡ other.now }
-    {}
 }
 
 impl<T: Order, const N: usize> Seq<T, N> {
-    pub fn contains(&self, x: &T) -> bool
-        ensures { result ≡ member T.Order.same x.now (held self.now) }
+    // Puts those elements of `more` behind the others that are not there yet, each once, if they fit, and else nothing.
+    pub fn try_merge(&mut self, more: &[T]) -> Result<(), Full>
+        ensures fits { IsOk result ↔ (length (merged_into T.Order.same self.old.held more.now) ≤ N) }
+        ensures held { self.new ≡ (if is_ok result then holding (merged_into T.Order.same self.old.held more.now) self.old else self.old) }
     {
-        contains(self.as_slice(), x)
-    }
-
-    // Puts those elements of `more` behind the others that are not there yet, each once, if they fit, and else nothing;
-    // answers whether they fitted.
-    pub fn try_merge(&mut self, more: &[T]) -> bool
-        ensures fits { result ≡ nat_le (length (merged_into T.Order.same (held self.old) more.now)) N }
-        ensures held { held self.new ≡ (if result then merged_into T.Order.same (held self.old) more.now else held self.old) }
-        ensures blank { self.new.blank ≡ self.old.blank }
-    {
-        let before = self.len;
+        // the use of a field by which the length is known to be within `N`
+        let _ = &self.len;
+        let mut merged = *self;
         for x in more {
-            if !self.contains(x) && !self.try_push(*x) {
-                self.truncate(before);
-                return false;
+            if !merged.contains(x) {
+                merged.try_push(*x)?;
             }
         }
-        true
+        *self = merged;
+        Ok(())
     }
 }

@@ -1,38 +1,37 @@
 // Changing a sequence of bounded length at a place.
-ghost use Rattle.std.specs.Prelude.{◌≡◌, ◌&&◌, length, if◌then◌else◌, nat_le, nat_lt};
-ghost use Rattle.lists.specs.Held.{held};
+ghost use Rattle.std.specs.Prelude.{◌≡◌, ◌<◌, ◌≤◌, ◌↔◌, length, if◌then◌else◌, IsOk, is_ok};
+ghost use Rattle.lists.specs.Held.{holding};
 ghost use Rattle.lists.specs.Places.{Taken};
 ghost use Rattle.std.specs.List.{insert};
 
+use crate::full::Full;
 use crate::seq::Seq;
 
 impl<T: Copy, const N: usize> Seq<T, N> {
-    // Puts `x` in at a place from 0 to the length, those from there on moving down; answers whether there was a place for it.
-    pub fn try_insert(&mut self, at: usize, x: T) -> bool
-        ensures fits { result ≡ (nat_le at (length (held self.old)) && nat_lt (length (held self.old)) N) }
-        ensures held { held self.new ≡ (if result then insert (held self.old) at x else held self.old) }
-        ensures blank { self.new.blank ≡ self.old.blank }
+    // Puts `x` in at a place from 0 to the length, those from there on moving down, if there is a place for it.
+    pub fn try_insert(&mut self, at: usize, x: T) -> Result<(), Full>
+        ensures fits { IsOk result ↔ ((at ≤ length self.old.held) × (length self.old.held < N)) }
+        ensures held { self.new ≡ (if is_ok result then holding (insert self.old.held at x) self.old else self.old) }
     {
-        if at > self.len || self.len >= N {
-            return false;
+        if at > self.len {
+            return Err(Full);
         }
-        let before = *self;
-        self.truncate(at);
-        let _ = self.try_push(x);
-        self.try_extend(&before.as_slice()[at..])
+        self.try_push(x)?;
+        let all = &mut self.items[..];
+        all[at..self.len].rotate_right(1);
+        Ok(())
     }
 
     // Takes the element at a place out, those behind it moving up.
     pub fn remove(&mut self, at: usize) -> Option<T>
-        ensures held { Taken result at (held self.old) (held self.new) }
+        ensures held { Taken result at self.old.held self.new.held }
         ensures blank { self.new.blank ≡ self.old.blank }
     {
         if at >= self.len {
             return None;
         }
-        let before = *self;
-        self.truncate(at);
-        let _ = self.try_extend(&before.as_slice()[at + 1..]);
-        Some(before.as_slice()[at])
+        let all = &mut self.items[..];
+        all[at..self.len].rotate_left(1);
+        self.pop()
     }
 }

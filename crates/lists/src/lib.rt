@@ -9,15 +9,20 @@
 #![tactic(auto)]
 
 mod bounded;
+mod full;
 mod inserting;
 mod laws;
 mod ordering;
+mod plain;
 mod prefix;
+mod reading;
 mod seq;
 mod slices;
 
+pub use full::Full;
 pub use laws::{begins_laws, membership_laws, merge_laws, name_laws, place_laws, split_laws};
 pub use ordering::Order;
+pub use plain::Plain;
 pub use prefix::{Parts, common_beginning, split};
 pub use seq::Seq;
 pub use slices::{between, contains, is_distinct, join, merge, position, without};
@@ -28,18 +33,18 @@ mod tests {
     use std::process::Abort;
     use std::test::Fail;
 
-    fn made(rt: &impl Abort, res: Option<Seq<u8, 4>>, expected: &[u8]) -> Result<(), Fail> {
+    fn made(rt: &impl Abort, res: Result<Seq<u8, 4>, Full>, expected: &[u8]) -> Result<(), Fail> {
         match res {
-            Some(made) => {
+            Ok(made) => {
                 assert_eq!(rt; made.as_slice(), expected);
                 Ok(())
             },
-            None => Err(Fail::new("does not fit")),
+            Err(Full) => Err(Fail::new("does not fit")),
         }
     }
 
-    fn refused(rt: &impl Abort, res: Option<Seq<u8, 4>>) {
-        assert!(rt; res.is_none());
+    fn refused(rt: &impl Abort, res: Result<Seq<u8, 4>, Full>) {
+        assert!(rt; res.is_err());
     }
 
     #[test]
@@ -91,11 +96,11 @@ mod tests {
     #[test]
     fn sequences_change_at_a_place(rt: HostRuntime) {
         let mut names = Seq::<u8, 3>::new(9);
-        assert_eq!(rt; names.try_insert(1, 5), false);
-        assert_eq!(rt; names.try_insert(0, 5), true);
-        assert_eq!(rt; names.try_insert(1, 7), true);
-        assert_eq!(rt; names.try_insert(1, 6), true);
-        assert_eq!(rt; names.try_insert(0, 4), false);
+        assert_eq!(rt; names.try_insert(1, 5).is_ok(), false);
+        assert_eq!(rt; names.try_insert(0, 5).is_ok(), true);
+        assert_eq!(rt; names.try_insert(1, 7).is_ok(), true);
+        assert_eq!(rt; names.try_insert(1, 6).is_ok(), true);
+        assert_eq!(rt; names.try_insert(0, 4).is_ok(), false);
         assert_eq!(rt; names.as_slice(), &[5, 6, 7][..]);
         assert_eq!(rt; names.remove(3), None);
         assert_eq!(rt; names.remove(1), Some(6));
@@ -127,16 +132,33 @@ mod tests {
     fn sequences_fill_and_empty(rt: HostRuntime) {
         let mut names = Seq::<u8, 3>::new(0);
         assert_eq!(rt; names.pop(), None);
-        assert_eq!(rt; names.try_extend(&[5, 6]), true);
-        assert_eq!(rt; names.try_extend(&[7, 8]), false);
-        assert_eq!(rt; names.try_push(7), true);
-        assert_eq!(rt; names.try_push(8), false);
+        assert_eq!(rt; names.try_extend(&[5, 6]).is_ok(), true);
+        assert_eq!(rt; names.try_extend(&[7, 8]).is_ok(), false);
+        assert_eq!(rt; names.try_push(7).is_ok(), true);
+        assert_eq!(rt; names.try_push(8).is_ok(), false);
         assert_eq!(rt; names.as_slice(), &[5, 6, 7][..]);
         assert_eq!(rt; names.pop(), Some(7));
-        assert_eq!(rt; names.try_merge(&[6, 8, 9]), false);
-        assert_eq!(rt; names.try_merge(&[8, 6, 8]), true);
+        assert_eq!(rt; names.try_merge(&[6, 8, 9]).is_ok(), false);
+        assert_eq!(rt; names.try_merge(&[8, 6, 8]).is_ok(), true);
         assert_eq!(rt; names.as_slice(), &[5, 6, 8][..]);
         names.truncate(1);
         assert_eq!(rt; names.as_slice(), &[5][..]);
+    }
+
+    #[test]
+    fn plain_records_are_read(rt: HostRuntime) {
+        let plain = |len| Plain {
+            items: [5, 6, 7],
+            len,
+        };
+        assert!(rt; Seq::<u8, 3>::from_plain(&plain(4), 0).is_none());
+        assert_eq!(rt;
+            Seq::from_plain(&plain(2), 0).map(|told| told.to_array()),
+            Some([5, 6, 0])
+        );
+        assert_eq!(rt;
+            Seq::from_plain(&plain(3), 0).map(|told| told.to_plain().len),
+            Some(3)
+        );
     }
 }

@@ -7,6 +7,7 @@ ghost use Rattle.lists.specs.Places.{place, PlaceIn};
 ghost use Rattle.lists.specs.Difference.{without};
 ghost use Rattle.lists.specs.Merging.{merge};
 
+use crate::full::Full;
 use crate::ordering::Order;
 use crate::seq::Seq;
 
@@ -47,41 +48,37 @@ pub fn is_distinct<T: Order>(list: &[T]) -> bool
     true
 }
 
-// The elements of `a`, and behind them those of `b`; nothing where they do not fit.
-pub fn join<T: Copy, const N: usize>(a: &[T], b: &[T], blank: T) -> Option<Seq<T, N>>
-    ensures { Made result (a.now ++ b.now) blank }
+// The elements of `a`, and behind them those of `b`; refused where they do not fit.
+pub fn join<T: Copy, const N: usize>(a: &[T], b: &[T], blank: T) -> Result<Seq<T, N>, Full>
+    ensures { Made N result (a.now ++ b.now) blank }
 {
     let mut both = Seq::new(blank);
-    if both.try_extend(a) && both.try_extend(b) {
-        Some(both)
-    } else {
-        None
-    }
+    both.try_extend(a)?;
+    both.try_extend(b)?;
+    Ok(both)
 }
 
-// The elements of `a` that are not in `b`, in order; nothing where they do not fit.
-pub fn without<T: Order, const N: usize>(a: &[T], b: &[T], blank: T) -> Option<Seq<T, N>>
-    ensures { Made result (without T.Order.same a.now b.now) blank }
+// The elements of `a` that are not in `b`, in order; refused where they do not fit.
+pub fn without<T: Order, const N: usize>(a: &[T], b: &[T], blank: T) -> Result<Seq<T, N>, Full>
+    ensures { Made N result (without T.Order.same a.now b.now) blank }
 {
     let mut left = Seq::new(blank);
     for x in a {
-        if !contains(b, x) && !left.try_push(*x) {
-            return None;
+        if !contains(b, x) {
+            left.try_push(*x)?;
         }
     }
-    Some(left)
+    Ok(left)
 }
 
-// The elements of both lists, each where it first appears; nothing where they do not fit.
-pub fn merge<T: Order, const N: usize>(a: &[T], b: &[T], blank: T) -> Option<Seq<T, N>>
-    ensures { Made result (merge T.Order.same a.now b.now) blank }
+// The elements of both lists, each where it first appears; refused where they do not fit.
+pub fn merge<T: Order, const N: usize>(a: &[T], b: &[T], blank: T) -> Result<Seq<T, N>, Full>
+    ensures { Made N result (merge T.Order.same a.now b.now) blank }
 {
     let mut all = Seq::new(blank);
-    if all.try_merge(a) && all.try_merge(b) {
-        Some(all)
-    } else {
-        None
-    }
+    all.try_merge(a)?;
+    all.try_merge(b)?;
+    Ok(all)
 }
 
 // Whether `x` is neither before `low` nor behind `high`.

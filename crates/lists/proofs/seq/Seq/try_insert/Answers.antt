@@ -1,28 +1,23 @@
-use Rattle.std.proofs.Common.{◌≡◌, ◌<◌, ◌≤◌, [], ◌∷◌, ◌++◌, length, take, drop, sym, ap, ◌∙◌, append_assoc, arith}
-use Rattle.std.specs.List.{insert}
-use Rattle.std.proofs.lemmas.List.Edits.{length-insert}
-use Rattle.std.proofs.lemmas.List.{length-take-le}
-use Rattle.std.proofs.lemmas.Bool.{and_from, cond-true, le-leb, lt-ltb}
-use Rattle.lists.specs.Held.{held}
-use Rattle.lists.proofs.Held.{held-length, pushed}
-use Rattle.lists.proofs.Edits.{put_together}
+use Rattle.std.proofs.Common.{◌≡◌, ◌≤◌, ◌-◌, length, ap, ◌∙◌, arith}
+use Rattle.std.proofs.lemmas.List.{length_push, length-take-le}
+use Rattle.lists.proofs.Held.{filled-put}
+use Rattle.lists.proofs.Edits.{rotated-in}
 use Rattle.lists.proofs.seq.Seq.try_insert.Goals as goal
 
-pub returns : goal.returns
-returns g c =
-    let s = c.args.self.now in
-    let at = c.args.at in
-    let x = c.args.x in
-    let h = held s in
-    let le : at ≤ length h = omega (arith, held-length s) in
-    let lt : length h < g.row.N = omega (arith, held-length s) in
-    let cut = c.truncate.ensures.held in
-    let push = pushed _ (held c.truncate.new.self) _ g.row.N x c.try_push.ensures.fits c.try_push.ensures.held (omega (arith, ap length cut, length-take-le at h le)) in
-    let front : held c.try_push.new.self ++ drop at h ≡ insert h at x =
-    ap (λ l. l ++ drop at h) (push ∙ ap (λ l. l ++ x ∷ []) cut) ∙ append_assoc (take at h) (x ∷ []) (drop at h) in
-    let made = put_together g.row.N _ h c.as_slice.result.now _ _ at c.as_slice.ensures (omega (arith, ap length front, length-insert h at x le)) c.try_extend.ensures.fits c.try_extend.ensures.held in
-    record {
-      fits = made.0 ∙ sym (and_from _ _ (le-leb _ _ le) (lt-ltb _ _ lt));
-      held = made.1 ∙ front ∙ sym (cond-true _ _ _ made.0);
-      blank = c.try_extend.ensures.blank ∙ c.try_push.ensures.blank ∙ c.truncate.ensures.blank;
-    }
+pub invariant_of-self : goal.invariant_of-self
+invariant_of-self g c =
+    let s = c.self-2.inside in
+    let h = c.args.self.now.held in
+    let was : length h ≡ c.self.inside.len = omega (arith, ap (λ v. length v.held) c.self.view_is, length-take-le c.self.inside.len c.self.inside.items (omega arith)) in
+    let now = ap (λ v. length v.held) (c.self-2.view_is ∙ c.in_ok-try_push.ensures.held) in
+    let le : c.args.at ≤ s.len = omega (arith, now, length_push h c.args.x, length-take-le s.len s.items (omega arith)) in
+    filled-put c.args.at (s.len - c.args.at) c.rotate_right.new.self s.len c.self-2.invariant le (omega arith) (omega arith) (omega arith) c.rotate_right.ensures.len
+
+pub returns-clause-held : goal.returns-clause-held
+returns-clause-held g c =
+    let s = c.self-2.inside in
+    let h = c.args.self.now.held in
+    let was : length h ≡ c.self.inside.len = omega (arith, ap (λ v. length v.held) c.self.view_is, length-take-le c.self.inside.len c.self.inside.items (omega arith)) in
+    let now = c.self-2.view_is ∙ c.in_ok-try_push.ensures.held in
+    let is = rotated-in s.items c.rotate_right.new.self h s.len c.args.at c.args.x (ap (λ v. v.held) now) (omega arith) (omega arith) c.rotate_right.ensures.len c.rotate_right.ensures.after in
+    λ i. record { held = is i; blank = (now i).blank }

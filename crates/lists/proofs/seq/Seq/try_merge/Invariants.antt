@@ -1,11 +1,11 @@
-use Rattle.std.proofs.Common.{◌≡◌, ◌≤◌, length, take, drop}
-use Rattle.lists.specs.Held.{held}
+use Rattle.std.proofs.Common.{◌≡◌, ◌≤◌, length, drop}
 use Rattle.lists.proofs.Merging.{adding}
 use Rattle.lists.proofs.seq.Seq.try_merge.Given as goal
 
 abbrev pub invariant-loop-x : goal.invariant-loop-x
 invariant-loop-x g l =
-    (adding g.T.Order.same (held l.self) (drop l.x-index l.more) ≡ adding g.T.Order.same (held l.initial.self) l.more)
-    × (take l.before (held l.self) ≡ held l.initial.self)
-    × (l.before ≤ length (held l.self))
-    × (l.self.blank ≡ l.initial.self.blank)
+    record {
+      merging : adding g.T.Order.same l.merged.held (drop l.x-index l.more) ≡ adding g.T.Order.same l.fn.self.held l.more;
+      within : length l.merged.held ≤ g.row.N;
+      blank : l.merged.blank ≡ l.fn.self.blank;
+    }

@@ -1,0 +1,34 @@
+// A sequence as a plain record, which may say anything.
+ghost use Rattle.std.specs.Prelude.{◌≡◌, ◌≤◌, length, take};
+ghost use Rattle.std.specs.Option.{SomeIff};
+ghost use Rattle.lists.specs.Held.{places};
+
+use crate::seq::Seq;
+
+// As many elements as `len` says, if there are so many places. Nothing is known of it.
+#[derive(Clone, Copy)]
+pub struct Plain<T, const N: usize> {
+    pub items: [T; N],
+    pub len: usize,
+}
+
+impl<T: Copy, const N: usize> Seq<T, N> {
+    // The sequence of which a plain record tells, over `blank`: none where the record says that there are more than `N` elements.
+    pub fn from_plain(plain: &Plain<T, N>, blank: T) -> Option<Seq<T, N>>
+        ensures { SomeIff result (plain.now.len ≤ N) (record { held = take plain.now.len plain.now.items; blank = blank }) }
+    {
+        let items = &plain.items[..];
+        let mut told = Seq::new(blank);
+        told.try_extend(items.get(..plain.len)?).unwrap();
+        Some(told)
+    }
+
+    pub fn to_plain(&self) -> Plain<T, N>
+        ensures { result ≡ record { items = places N self.now; len = length self.now.held } }
+    {
+        Plain {
+            items: self.items,
+            len: self.len,
+        }
+    }
+}

@@ -1,0 +1,50 @@
+// Reading a sequence of bounded length.
+ghost use Rattle.std.specs.Prelude.{◌≡◌, ◌≤◌, length, ◌==◌};
+ghost use Rattle.lists.specs.Held.{places};
+ghost use Rattle.lists.specs.Membership.{member};
+
+use crate::ordering::Order;
+use crate::seq::Seq;
+use crate::slices::contains;
+
+impl<T: Copy, const N: usize> Seq<T, N> {
+    pub fn len(&self) -> usize
+        ensures is { result ≡ length self.now.held }
+        ensures within { result ≤ N }
+    {
+        self.len
+    }
+
+    pub fn is_empty(&self) -> bool
+        ensures { result ≡ (length self.now.held == 0) }
+    {
+        self.as_slice().is_empty()
+    }
+
+    pub fn as_slice(&self) -> &[T]
+        ensures is { result.now ≡ self.now.held }
+        ensures within { length self.now.held ≤ N }
+    {
+        &self.items[..self.len]
+    }
+
+    // Every place of the sequence: its elements, and the blank in each place past them.
+    pub fn to_array(&self) -> [T; N]
+        ensures { result ≡ places N self.now }
+    {
+        self.items
+    }
+
+    // Two sequences with equal contents, over the same blank, are equal in every byte: the view of a sequence forgets none.
+    pub fn known_by_contents(&self, other: &Seq<T, N>)
+        ensures { self.now.held ≡ other.now.held → self.now.blank ≡ other.now.blank → self.now ≡ other.now }
+    {}
+}
+
+impl<T: Order, const N: usize> Seq<T, N> {
+    pub fn contains(&self, x: &T) -> bool
+        ensures { result ≡ member T.Order.same x.now self.now.held }
+    {
+        contains(self.as_slice(), x)
+    }
+}
