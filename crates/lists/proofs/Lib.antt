@@ -3,6 +3,7 @@ pub mod Difference
 pub mod Merging
 pub mod Beginnings
 pub mod Places
+pub mod Orders
 pub mod Ranges
 pub mod Held
 pub mod Edits

@@ -111,7 +111,7 @@ impl<T: Copy, const N: usize> Seq<T, N> {
 
 impl<T: Order, const N: usize> Seq<T, N> {
     pub fn contains(&self, x: &T) -> bool
-        ensures { result ≡ member T.Order.same x.now (held self.now) }
+        ensures { result ≡ member T.eq x.now (held self.now) }
     {
         contains(self.as_slice(), x)
     }
@@ -119,8 +119,8 @@ impl<T: Order, const N: usize> Seq<T, N> {
     // Puts those elements of `more` behind the others that are not there yet, each once, if they fit, and else nothing;
     // answers whether they fitted.
     pub fn try_merge(&mut self, more: &[T]) -> bool
-        ensures fits { result ≡ nat_le (length (merged_into T.Order.same (held self.old) more.now)) N }
-        ensures held { held self.new ≡ (if result then merged_into T.Order.same (held self.old) more.now else held self.old) }
+        ensures fits { result ≡ nat_le (length (merged_into T.eq (held self.old) more.now)) N }
+        ensures held { held self.new ≡ (if result then merged_into T.eq (held self.old) more.now else held self.old) }
         ensures blank { self.new.blank ≡ self.old.blank }
     {
         let before = self.len;

@@ -16,7 +16,9 @@ mod prefix;
 mod seq;
 mod slices;
 
-pub use laws::{begins_laws, membership_laws, merge_laws, name_laws, place_laws, split_laws};
+pub use laws::{
+    begins_laws, membership_laws, merge_laws, name_laws, order_laws, place_laws, split_laws,
+};
 pub use ordering::Order;
 pub use prefix::{Parts, common_beginning, split};
 pub use seq::Seq;

@@ -11,7 +11,7 @@ rest xs n m e = take_rest xs n ∙ ap (λ k. drop k xs) e
 
 pub returns : goal.returns
 returns g c =
-    let same = g.T.Order.same in
+    let same = g.T.PartialEq.eq in
     let tells = g.met.T.Order.tells in
     let o = c.args.opened.now in
     let f = c.args.decided.now in

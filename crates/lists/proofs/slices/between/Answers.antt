@@ -1,6 +1,8 @@
 use Rattle.std.proofs.Common.{◌+◌, sym, ap, ◌∙◌, arith}
 use Rattle.std.proofs.lemmas.List.{take_all}
+use Rattle.lists.specs.Orders.{before}
 use Rattle.lists.specs.Ranges.{between, in_range}
+use Rattle.lists.proofs.Orders.{ordered_by_cmp}
 use Rattle.lists.proofs.Ranges.{between_none}
 use Rattle.lists.proofs.Steps.{count_yes, count_no}
 use Rattle.lists.proofs.slices.between.Goals as goal
@@ -9,7 +11,7 @@ use Rattle.lists.proofs.slices.between.Goals.{then-is_between, else-is_between}
 pub loop-x-preserved : goal.loop-x-preserved
 loop-x-preserved g c =
     let l = c.loop-x in
-    let test = in_range g.T.Order.before c.args.low.now c.args.high.now in
+    let test = in_range (before g.T.Ord.cmp) c.args.low.now c.args.high.now in
     let list = c.args.list.now in
     let x = c.x-item.result in
     elim c.if-is_between.branch [
@@ -28,7 +30,7 @@ returns g c =
     let l = c.loop-x in
     let low = c.args.low.now in
     let high = c.args.high.now in
-    let count = between g.T.Order.before low high in
+    let count = between (before g.T.Ord.cmp) low high in
     let list = c.args.list.now in
     let is = l.invariant.0 ∙ ap count (take_all l.x-index list c.loop-x-test.false) in
-    record { is = is; none = λ crossed. is ∙ between_none g.T.Order.same g.T.Order.before g.met.T.Order.tells g.met.T.Order.ordered low high crossed list }
+    record { is = is; none = λ crossed. is ∙ between_none g.T.PartialEq.eq (before g.T.Ord.cmp) g.met.T.Order.tells (ordered_by_cmp g.T.PartialEq.eq g.T.Ord.cmp g.met.T.Ord.total g.met.T.Ord.matches_eq) low high crossed list }

@@ -7,7 +7,7 @@ use Rattle.lists.proofs.slices.is_distinct.Goals as goal
 pub returns-then-contains : goal.returns-then-contains
 returns-then-contains g c =
     let l = c.loop-at in
-    let same = g.T.Order.same in
+    let same = g.T.PartialEq.eq in
     let xs = c.args.list.now in
     let x = c.index-list-at.result in
     sym (distinct_step same xs l.at x c.loop-at-test.true c.index-list-at.is _ (c.if-contains.ensures ∙ ap (member same x) (take_rest xs _))) ∙ l.invariant
@@ -15,7 +15,7 @@ returns-then-contains g c =
 pub loop-at-preserved : goal.loop-at-preserved
 loop-at-preserved g c =
     let l = c.loop-at in
-    let same = g.T.Order.same in
+    let same = g.T.PartialEq.eq in
     let xs = c.args.list.now in
     let x = c.index-list-at.result in
     sym (distinct_step same xs l.at x c.loop-at-test.true c.index-list-at.is _ (c.if-contains.ensures ∙ ap (member same x) (take_rest xs _))) ∙ l.invariant
@@ -23,4 +23,4 @@ loop-at-preserved g c =
 pub returns : goal.returns
 returns g c =
     let l = c.loop-at in
-    sym (at_drop_all (distinct g.T.Order.same) c.args.list.now l.at c.loop-at-test.false) ∙ l.invariant
+    sym (at_drop_all (distinct g.T.PartialEq.eq) c.args.list.now l.at c.loop-at-test.false) ∙ l.invariant

@@ -8,7 +8,7 @@ use Rattle.lists.proofs.slices.merge.Goals as goal
 
 pub returns-then-try_merge-2 : goal.returns-then-try_merge-2
 returns-then-try_merge-2 g c =
-    let same = g.T.Order.same in
+    let same = g.T.PartialEq.eq in
     let tells = g.met.T.Order.tells in
     let a = c.args.a.now in
     let b = c.args.b.now in
@@ -21,7 +21,7 @@ returns-then-try_merge-2 g c =
 -- either part is too long for what is left, so the merge is too long
 pub returns-else-try_merge : goal.returns-else-try_merge
 returns-else-try_merge g c =
-    let same = g.T.Order.same in
+    let same = g.T.PartialEq.eq in
     let tells = g.met.T.Order.tells in
     let a = c.args.a.now in
     let b = c.args.b.now in

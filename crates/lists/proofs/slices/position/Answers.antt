@@ -8,7 +8,7 @@ use Rattle.lists.proofs.slices.position.Goals as goal
 pub returns-then-is_same : goal.returns-then-is_same
 returns-then-is_same g c =
     let l = c.loop-at in
-    let same = g.T.Order.same in
+    let same = g.T.PartialEq.eq in
     let x = c.args.x.now in
     let xs = c.args.list.now in
     let y = c.index-list-at.result in
@@ -20,7 +20,7 @@ returns-then-is_same g c =
 pub loop-at-preserved : goal.loop-at-preserved
 loop-at-preserved g c =
     let l = c.loop-at in
-    let same = g.T.Order.same in
+    let same = g.T.PartialEq.eq in
     let x = c.args.x.now in
     let xs = c.args.list.now in
     let y = c.index-list-at.result in
@@ -32,5 +32,5 @@ loop-at-preserved g c =
 pub returns : goal.returns
 returns g c =
     let l = c.loop-at in
-    let none = sym l.invariant.0 ∙ at_drop_all (member g.T.Order.same c.args.x.now) c.args.list.now l.at c.loop-at-test.false in
+    let none = sym l.invariant.0 ∙ at_drop_all (member g.T.PartialEq.eq c.args.x.now) c.args.list.now l.at c.loop-at-test.false in
     record { is = sym (cond-false _ _ _ none); within = tt }

@@ -9,14 +9,14 @@ use Rattle.lists.proofs.slices.without.Goals as goal
 pub returns-then-not-try_push : goal.returns-then-not-try_push
 returns-then-not-try_push g c =
     let l = c.loop-x in
-    let same = g.T.Order.same in
+    let same = g.T.PartialEq.eq in
     let over = without-over same (held l.left) c.args.a.now l.x-index c.x-item.result c.loop-x-test.true c.x-item.is c.args.b.now (sym c.if-not-contains.ensures) in
     omega (arith, over, ap length l.invariant.0, ltb-false _ _ (sym c.if-not-try_push.ensures.fits))
 
 pub loop-x-preserved : goal.loop-x-preserved
 loop-x-preserved g c =
     let l = c.loop-x in
-    let same = g.T.Order.same in
+    let same = g.T.PartialEq.eq in
     let a = c.args.a.now in
     let b = c.args.b.now in
     let rest = without same (drop (l.x-index + 1) a) b in
@@ -36,6 +36,6 @@ loop-x-preserved g c =
 pub returns : goal.returns
 returns g c =
     let l = c.loop-x in (
-      sym (append-nil (held l.left)) ∙ sym (at_drop_all (λ r. held l.left ++ without g.T.Order.same r c.args.b.now) c.args.a.now l.x-index c.loop-x-test.false) ∙ l.invariant.0,
+      sym (append-nil (held l.left)) ∙ sym (at_drop_all (λ r. held l.left ++ without g.T.PartialEq.eq r c.args.b.now) c.args.a.now l.x-index c.loop-x-test.false) ∙ l.invariant.0,
       l.invariant.1 ∙ c.new-left.ensures.blank,
     )

@@ -5,5 +5,5 @@ use Rattle.lists.proofs.slices.without.Given as goal
 
 abbrev pub invariant-loop-x : goal.invariant-loop-x
 invariant-loop-x g l =
-    (held l.left ++ without g.T.Order.same (drop l.x-index l.a) l.b ≡ without g.T.Order.same l.a l.b)
+    (held l.left ++ without g.T.PartialEq.eq (drop l.x-index l.a) l.b ≡ without g.T.PartialEq.eq l.a l.b)
     × (l.left.blank ≡ l.initial.left.blank)

@@ -11,7 +11,7 @@ use Rattle.lists.proofs.seq.Seq.try_merge.Goals as goal
 pub returns-then-not-try_push : goal.returns-then-not-try_push
 returns-then-not-try_push g c =
     let l = c.loop-x in
-    let same = g.T.Order.same in
+    let same = g.T.PartialEq.eq in
     let s = c.args.self.now in
     let more = c.args.more.now in
     let over = adding-over same (held l.self) more l.x-index c.x-item.result c.loop-x-test.true c.x-item.is (sym c.if-not-contains.ensures) in
@@ -30,7 +30,7 @@ loop-x-init g c =
 pub loop-x-preserved : goal.loop-x-preserved
 loop-x-preserved g c =
     let l = c.loop-x in
-    let same = g.T.Order.same in
+    let same = g.T.PartialEq.eq in
     let so = held l.self in
     let n = c.args.self.now.len in
     let more = c.args.more.now in
@@ -54,7 +54,7 @@ loop-x-preserved g c =
 pub returns : goal.returns
 returns g c =
     let l = c.loop-x in
-    let same = g.T.Order.same in
+    let same = g.T.PartialEq.eq in
     let s = c.args.self.now in
     let more = c.args.more.now in
     let is : held l.self ≡ merged_into same (held s) more =

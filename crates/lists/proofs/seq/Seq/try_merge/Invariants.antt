@@ -5,7 +5,7 @@ use Rattle.lists.proofs.seq.Seq.try_merge.Given as goal
 
 abbrev pub invariant-loop-x : goal.invariant-loop-x
 invariant-loop-x g l =
-    (adding g.T.Order.same (held l.self) (drop l.x-index l.more) ≡ adding g.T.Order.same (held l.initial.self) l.more)
+    (adding g.T.PartialEq.eq (held l.self) (drop l.x-index l.more) ≡ adding g.T.PartialEq.eq (held l.initial.self) l.more)
     × (take l.before (held l.self) ≡ held l.initial.self)
     × (l.before ≤ length (held l.self))
     × (l.self.blank ≡ l.initial.self.blank)
