@@ -4,7 +4,6 @@ pub mod Merging
 pub mod Beginnings
 pub mod Places
 pub mod Orders
-pub mod Ranges
 pub mod Held
 pub mod Edits
 pub mod Splits

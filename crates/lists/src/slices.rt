@@ -15,12 +15,7 @@ use crate::seq::Seq;
 pub fn contains<T: Order>(list: &[T], x: &T) -> bool
     ensures { result ≡ member T.eq x.now list.now }
 {
-    for y in list {
-        if x.is_same(y) {
-            return true;
-        }
-    }
-    false
+    list.contains(x)
 }
 
 // The place where `x` first stands in the list.
@@ -28,22 +23,19 @@ pub fn position<T: Order>(list: &[T], x: &T) -> Option<usize>
     ensures is { result ≡ (if member T.eq x.now list.now then Some (place T.eq x.now list.now) else None) }
     ensures within { PlaceIn result (length list.now) }
 {
-    for (at, y) in list.iter().enumerate() {
-        if x.is_same(y) {
-            return Some(at);
-        }
-    }
-    None
+    list.iter().position(|y| x == y)
 }
 
 // Whether no element stands twice.
 pub fn is_distinct<T: Order>(list: &[T]) -> bool
     ensures { result ≡ distinct T.eq list.now }
 {
-    for (at, x) in list.iter().enumerate() {
-        if contains(&list[at + 1..], x) {
+    let mut left = list;
+    while let [x, rest @ ..] = left {
+        if contains(rest, x) {
             return false;
         }
+        left = rest;
     }
     true
 }
@@ -97,11 +89,5 @@ pub fn between<T: Order>(list: &[T], low: &T, high: &T) -> usize
     ensures is { result ≡ between (before T.cmp) low.now high.now list.now }
     ensures none { before T.cmp high.now low.now ≡ true → result ≡ 0 }
 {
-    let mut count = 0;
-    for x in list {
-        if is_between(x, low, high) {
-            count += 1;
-        }
-    }
-    count
+    list.iter().filter(|x| is_between(*x, low, high)).count()
 }
