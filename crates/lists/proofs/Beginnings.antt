@@ -1,7 +1,9 @@
 -- Laws of beginnings: which list begins which, and the common beginning of two.
-use Rattle.std.proofs.Common.{◌≡◌, ◌<◌, ◌≤◌, Bool, true, false, cond, ◌⊎◌, List, [], ◌∷◌, ◌++◌, length, take, drop, sym, refl, ap, ◌∙◌, ap₂, inl, inr, append_assoc, append-nil, arith, length-append}
+use Rattle.std.proofs.Common.{◌≡◌, ◌+◌, ◌<◌, ◌≤◌, Bool, true, false, cond, ◌⊎◌, List, [], ◌∷◌, ◌++◌, length, take, drop, sym, refl, ap, ◌∙◌, ap₂, inl, inr, append_assoc, append-nil, arith, length-append}
 use Rattle.std.proofs.lemmas.List.{take_at, take-take, take-append-drop}
 use Rattle.std.proofs.lemmas.Bool.{cases_lt, cases_Bool}
+use Rattle.std.specs.List.{prefix_len, take_while, zip}
+use Rattle.std.proofs.lemmas.List.Folds.{length-prefix_len}
 use Rattle.lists.specs.Orders.{Tells}
 use Rattle.lists.specs.Beginnings.{Begins, common, Longest}
 
@@ -44,6 +46,18 @@ module _ {A : Type 0} (same : A → A → Bool) where
   pub common-nothing : (a : List A) → common same a [] ≡ []
   common-nothing [] = refl
   common-nothing (x ∷ a) = refl
+
+  -- how many pairs of the two lists are alike from the front on
+  pairs : (a b : List A) → prefix_len (λ p. same p.0 p.1) (zip a b) ≡ length (common same a b)
+  pairs [] b = refl
+  pairs (x ∷ a) [] = refl
+  pairs (x ∷ a) (y ∷ b) =
+      let ih = pairs a b in
+      elim (same x y) as (λ v. cond v (1 + prefix_len (λ p. same p.0 p.1) (zip a b)) 0 ≡ length (cond v (x ∷ common same a b) []))
+      [ true ↦ omega arith | false ↦ refl ]
+
+  pub common_pairs : (a b : List A) → length (take_while (λ p. same p.0 p.1) (zip a b)) ≡ length (common same a b)
+  common_pairs a b = length-prefix_len (λ p. same p.0 p.1) (zip a b) ∙ pairs a b
 
   pub common-begins-left : (a b : List A) → Begins (common same a b) a
   common-begins-left [] b = ([], refl)

@@ -3,7 +3,7 @@ pub mod Difference
 pub mod Merging
 pub mod Beginnings
 pub mod Places
-pub mod Ranges
+pub mod Orders
 pub mod Held
 pub mod Edits
 pub mod Splits

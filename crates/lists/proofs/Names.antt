@@ -2,6 +2,7 @@
 use Rattle.std.proofs.Common.{◌≡◌, ℕ, zero, suc, ◌<◌, ◌≤◌, eqb, ◌⊎◌, List, [], ◌∷◌, length, sym, ap, ◌∙◌, inl, inr, le_refl, arith}
 use Rattle.std.proofs.lemmas.Bool.{cases_eq, eq-eqb, ne_eqb}
 use Rattle.std.specs.List.{AllByRecursion}
+use Rattle.std.proofs.lemmas.List.Elements.{recursion_from_All}
 use Rattle.lists.specs.Laws.{FewNames}
 use Rattle.lists.specs.Membership.{member, Distinct, Apart}
 use Rattle.lists.specs.Difference.{without}
@@ -29,8 +30,11 @@ without_one u (m ∷ a) once = go (without_one u a once.1) (cases_eq m u)
         rw (eq-eqb m u e) (omega (arith, ap length q))
     go fewer (inr e) = rw (ne_eqb m u e) (omega arith)
 
+few_below : (u : ℕ) (a : List ℕ) → Distinct eqb a → AllByRecursion (λ m. m < u) a → length a ≤ u
+few_below zero [] once below = le_refl _
+few_below zero (m ∷ a) once below = absurd (omega (arith, below.0))
+few_below (suc u) a once below =
+    omega (arith, without_one u a once, few_below u (without eqb a (u ∷ [])) (without-distinct eqb tells_eqb a (u ∷ []) once) (without_below u a below))
+
 pub names_few : FewNames
-names_few zero [] once below = le_refl _
-names_few zero (m ∷ a) once below = absurd (omega (arith, below.0))
-names_few (suc u) a once below =
-    omega (arith, without_one u a once, names_few u (without eqb a (u ∷ [])) (without-distinct eqb tells_eqb a (u ∷ []) once) (without_below u a below))
+names_few u a once below = few_below u a once (recursion_from_All (λ m. m < u) a below)

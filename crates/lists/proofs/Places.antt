@@ -1,12 +1,28 @@
 -- Laws of places: an element taken out and put back, and what stays distinct.
-use Rattle.std.proofs.Common.{◌≡◌, ℕ, zero, suc, ◌<◌, Bool, true, false, cond, ◌||◌, List, [], ◌∷◌, length, sym, refl, ap, ◌∙◌, arith}
-use Rattle.std.specs.List.{insert, remove}
+use Rattle.std.proofs.Common.{◌≡◌, ℕ, zero, suc, ◌<◌, Bool, true, false, cond, ◌||◌, if◌then◌else◌, nat_lt, List, [], ◌∷◌, length, Some, None, sym, refl, ap, ◌∙◌, arith}
+use Rattle.std.specs.List.{insert, remove, position, position_or_len}
+use Rattle.std.proofs.lemmas.List.Recursion.{is_position_or_len}
+use Rattle.std.proofs.lemmas.Bool.Decides.{nat_tests as ways}
 use Rattle.std.proofs.lemmas.Bool.{or_parts, or_from, true≢false}
 use Rattle.lists.specs.Orders.{Tells}
 use Rattle.lists.specs.Membership.{member, Distinct}
 use Rattle.lists.specs.Places.{place}
 
 module _ {A : Type 0} (same : A → A → Bool) where
+  -- the place at which the library finds an element, if it finds one
+  found : (x : A) (a : List A) → nat_lt (place same x a) (length a) ≡ member same x a
+  found x [] = refl
+  found x (y ∷ a) = go (same x y) (found x a)
+    where
+      go : (b : Bool) → nat_lt (place same x a) (length a) ≡ member same x a → nat_lt (cond b 0 (suc (place same x a))) (suc (length a)) ≡ b || member same x a
+      go true ih = grind (arith, ways)
+      go false ih = grind (arith, ways)
+
+  pub position_place : (x : A) (a : List A) → position (same x) a ≡ if member same x a then Some (place same x a) else None
+  position_place x a =
+      let at : place same x a ≡ position_or_len (same x) a = is_position_or_len (place same x) (same x) refl (λ y b. ap (cond (same x y) 0) (omega arith)) a in
+      ap (λ n. cond (nat_lt n (length a)) (Some n) None) (sym at) ∙ ap (λ b. cond b (Some (place same x a)) None) (found x a)
+
   pub place-within : (x : A) (a : List A) → member same x a ≡ true → place same x a < length a
   place-within x [] h = absurd (true≢false (sym h))
   place-within x (y ∷ a) h = go (same x y) (place-within x a) h

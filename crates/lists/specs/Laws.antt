@@ -1,6 +1,6 @@
 -- What always holds of the list operations. Assumes of the test `same` only that it tells elements apart.
 use Rattle.std.specs.Prelude.{◌≡◌, ℕ, ◌<◌, ◌≤◌, Bool, not, ◌&&◌, ◌||◌, ◌⊎◌, List, [], ◌∷◌, ◌++◌, length, Decides, nat_eq}
-use Rattle.std.specs.List.{AllByRecursion}
+use Rattle.std.specs.List.{All}
 use Rattle.lists.specs.Beginnings.{Begins}
 use Rattle.lists.specs.Membership.{member, Distinct, distinct, Apart}
 use Rattle.lists.specs.Difference.{without}
@@ -42,7 +42,7 @@ pub record SplitLaws {A : Type 0} (same : A → A → Bool) : Type 0 where
 
 -- Names: distinct names below u are at most u.
 abbrev pub FewNames : Type 0
-FewNames = (u : ℕ) (a : List ℕ) → Distinct nat_eq a → AllByRecursion (λ m. m < u) a → length a ≤ u
+FewNames = (u : ℕ) (a : List ℕ) → Distinct nat_eq a → All (λ m. m < u) a → length a ≤ u
 
 -- The procedure does not find the split of (0, 1) against (0, 2, 1) where the longest order is (0, 2).
 abbrev pub ProcedureDiffers : Type 0

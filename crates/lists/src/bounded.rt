@@ -73,8 +73,8 @@ impl<T: Copy, const N: usize> Seq<T, N> {
 impl<T: Order, const N: usize> Seq<T, N> {
     // Puts those elements of `more` behind the others that are not there yet, each once, if they fit, and else nothing.
     pub fn try_merge(&mut self, more: &[T]) -> Result<(), Full>
-        ensures fits { IsOk result ↔ (length (merged_into T.Order.same self.old.held more.now) ≤ N) }
-        ensures held { self.new ≡ (if is_ok result then holding (merged_into T.Order.same self.old.held more.now) self.old else self.old) }
+        ensures fits { IsOk result ↔ (length (merged_into T.eq self.old.held more.now) ≤ N) }
+        ensures held { self.new ≡ (if is_ok result then holding (merged_into T.eq self.old.held more.now) self.old else self.old) }
     {
         // the use of a field by which the length is known to be within `N`
         let _ = &self.len;

@@ -20,7 +20,9 @@ mod seq;
 mod slices;
 
 pub use full::Full;
-pub use laws::{begins_laws, membership_laws, merge_laws, name_laws, place_laws, split_laws};
+pub use laws::{
+    begins_laws, membership_laws, merge_laws, name_laws, order_laws, place_laws, split_laws,
+};
 pub use ordering::Order;
 pub use plain::Plain;
 pub use prefix::{Parts, common_beginning, split};

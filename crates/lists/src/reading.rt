@@ -43,7 +43,7 @@ impl<T: Copy, const N: usize> Seq<T, N> {
 
 impl<T: Order, const N: usize> Seq<T, N> {
     pub fn contains(&self, x: &T) -> bool
-        ensures { result ≡ member T.Order.same x.now self.now.held }
+        ensures { result ≡ member T.eq x.now self.now.held }
     {
         contains(self.as_slice(), x)
     }

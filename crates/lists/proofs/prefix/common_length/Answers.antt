@@ -1,29 +1,14 @@
-use Rattle.std.proofs.Common.{sym, arith}
-use Rattle.lists.proofs.Steps.{common-more, common-parts, common-past-left, common-past-right}
+use Rattle.std.proofs.Common.{rules, ◌∙◌}
+use borrow.Author.Tests.{tests}
+use Rattle.std.proofs.lemmas.Iterator.{YieldsList-from_slice, YieldsList-from_zip}
+use Rattle.std.proofs.lemmas.Iterator.Consumers.{YieldsList-at, count_from_yields_List}
+use Rattle.std.proofs.lemmas.Iterator.Search.{YieldsList-from_take_while}
+use Rattle.lists.proofs.Beginnings.{common_pairs}
 use Rattle.lists.proofs.prefix.common_length.Goals as goal
-use Rattle.lists.proofs.prefix.common_length.Goals.{then-i-b-via-then-i-b, then-i-b-via-else-i-b+then-not-is_same}
 
-pub returns-then-i-b : goal.returns-then-i-b
-returns-then-i-b g c =
-    let l = c.loop-i in
-    let same = g.T.Order.same in
+pub returns-clause-is : goal.returns-clause-is
+returns-clause-is g c =
+    let same = g.T.PartialEq.eq in
     let a = c.args.a.now in
     let b = c.args.b.now in
-    elim c.then-i-b.branch [
-      | then-i-b-via-then-i-b w ↦ let e = common-past-right same a b l.i w.if-i-b.true in record { is = omega (arith, e, l.invariant.0); left = omega arith; right = omega (arith, l.invariant.1) }
-      | then-i-b-via-else-i-b+then-not-is_same w ↦
-          let e = common-parts same a b l.i _ _ c.loop-i-test.true w.if-i-b.false c.index-a-i.is w.index-b-i.is (sym w.if-not-is_same.ensures) in
-          record { is = omega (arith, e, l.invariant.0); left = omega arith; right = omega (arith, l.invariant.1) }
-    ]
-
-pub loop-i-preserved : goal.loop-i-preserved
-loop-i-preserved g c =
-    let l = c.loop-i in
-    let e = common-more g.T.Order.same c.args.a.now c.args.b.now l.i _ _ c.loop-i-test.true c.if-i-b.false c.index-a-i.is c.index-b-i.is (sym c.if-not-is_same.ensures) in
-    (omega (arith, e, l.invariant.0), omega (arith, c.if-i-b.false))
-
-pub returns : goal.returns
-returns g c =
-    let l = c.loop-i in
-    let e = common-past-left g.T.Order.same c.args.a.now c.args.b.now l.i c.loop-i-test.false in
-    record { is = omega (arith, e, l.invariant.0); left = omega arith; right = omega (arith, l.invariant.1) }
+    count_from_yields_List c.take_while.result _ c.count.ensures.ran (YieldsList-from_take_while _ (λ p. same p.0 p.1) (YieldsList-at c.take_while.ensures.source (YieldsList-from_zip (YieldsList-at c.zip.ensures.first (YieldsList-from_slice a (cc))) (YieldsList-from_slice b (cc)))) c.take_while.ensures.closure c.take_while.ensures.done (λ p t q k. search (rules, tests))) ∙ common_pairs same a b

@@ -1,6 +1,10 @@
-use Rattle.std.proofs.Common.{◌≡◌, drop}
+use Rattle.std.proofs.Common.{◌≡◌, length}
 use Rattle.lists.specs.Membership.{distinct}
 use Rattle.lists.proofs.slices.is_distinct.Given as goal
 
-abbrev pub invariant-loop-at : goal.invariant-loop-at
-invariant-loop-at g l = distinct g.T.Order.same (drop l.at l.list) ≡ distinct g.T.Order.same l.list
+-- what is left has its elements once exactly where the whole list has
+abbrev pub invariant-loop-left : goal.invariant-loop-left
+invariant-loop-left g l = distinct g.T.PartialEq.eq l.left ≡ distinct g.T.PartialEq.eq l.list
+
+abbrev pub decreases-loop-left : goal.decreases-loop-left
+decreases-loop-left g l = length l.left

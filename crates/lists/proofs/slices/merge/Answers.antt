@@ -8,7 +8,7 @@ use Rattle.lists.proofs.slices.merge.Goals as goal
 -- either part is too long for what is left, so the merge is too long
 pub returns-in_err-try_merge : goal.returns-in_err-try_merge
 returns-in_err-try_merge g c =
-    let same = g.T.Order.same in
+    let same = g.T.PartialEq.eq in
     let tells = g.met.T.Order.tells in
     let a = c.args.a.now in
     let b = c.args.b.now in
@@ -19,7 +19,7 @@ returns-in_err-try_merge g c =
 
 pub returns-in_err-try_merge-2 : goal.returns-in_err-try_merge-2
 returns-in_err-try_merge-2 g c =
-    let same = g.T.Order.same in
+    let same = g.T.PartialEq.eq in
     let tells = g.met.T.Order.tells in
     let a = c.args.a.now in
     let b = c.args.b.now in
@@ -31,7 +31,7 @@ returns-in_err-try_merge-2 g c =
 
 pub returns : goal.returns
 returns g c =
-    let same = g.T.Order.same in
+    let same = g.T.PartialEq.eq in
     let tells = g.met.T.Order.tells in
     let a = c.args.a.now in
     let b = c.args.b.now in

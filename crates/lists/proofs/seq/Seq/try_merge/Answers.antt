@@ -9,7 +9,7 @@ use Rattle.lists.proofs.seq.Seq.try_merge.Goals as goal
 pub returns-in_err-try_push-clause-fits : goal.returns-in_err-try_push-clause-fits
 returns-in_err-try_push-clause-fits g c =
     let l = c.loop-x in
-    let same = g.T.Order.same in
+    let same = g.T.PartialEq.eq in
     let more = c.args.more.now in
     let full = full-push c.in_err-try_push.ensures.fits.1 in
     let over = adding-over same l.merged.held more l.x-index c.x-item.result c.loop-x-test.true c.x-item.is (sym c.if-not-contains.ensures) in
@@ -19,7 +19,7 @@ returns-in_err-try_push-clause-fits g c =
 pub returns-clause-fits : goal.returns-clause-fits
 returns-clause-fits g c =
     let l = c.loop-x in
-    let same = g.T.Order.same in
+    let same = g.T.PartialEq.eq in
     let is : l.merged.held ≡ merged_into same c.args.self.now.held c.args.more.now =
     sym (at_drop_all (adding same l.merged.held) c.args.more.now l.x-index c.loop-x-test.false) ∙ l.invariant.merging ∙ adding_is same g.met.T.Order.tells c.args.self.now.held c.args.more.now in
     (λ _. omega (arith, ap length is), λ _. refl)
@@ -27,7 +27,7 @@ returns-clause-fits g c =
 pub returns-clause-held : goal.returns-clause-held
 returns-clause-held g c =
     let l = c.loop-x in
-    let same = g.T.Order.same in
+    let same = g.T.PartialEq.eq in
     let is : l.merged.held ≡ merged_into same c.args.self.now.held c.args.more.now =
     sym (at_drop_all (adding same l.merged.held) c.args.more.now l.x-index c.loop-x-test.false) ∙ l.invariant.merging ∙ adding_is same g.met.T.Order.tells c.args.self.now.held c.args.more.now in
     c.self-2.view_is ∙ (λ i. record { held = is i; blank = l.invariant.blank i })
