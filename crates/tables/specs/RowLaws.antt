@@ -1,34 +1,26 @@
 -- Laws of rows: the test for the same row, and lists of rows that hold none twice.
-use Rattle.std.specs.Prelude.{◌≡◌, ℕ, ◌-◌, true, false, List, [], ◌∷◌, ◌++◌, length, take, drop, ℤ, pos, negsuc, ◌==◌, refl}
+use Rattle.std.specs.Prelude.{◌≡◌, ℕ, ◌-◌, true, false, List, [], ◌∷◌, ◌++◌, length, take, drop, ◌==◌, refl}
 use Rattle.std.proofs.Common.{sym, ap, ap₂, ◌∙◌, arith}
 use Rattle.std.specs.List.{insert, remove}
 use Rattle.std.proofs.lemmas.List.{take_all, drop_all, take-append-le, length_push}
-use Rattle.std.proofs.lemmas.Bool.{and_parts, and_from, eqb-true, eq-eqb, true≢false}
+use Rattle.std.proofs.lemmas.Bool.{and_parts, and_from, eqb-true, eq-eqb}
+use Rattle.std.specs.Ordering.{int_eq}
+use Rattle.std.proofs.lemmas.Bool.Decides.{Decides-int_eq}
 use Rattle.lists.specs.Membership.{member, distinct}
 use Rattle.lists.specs.Orders.{Tells}
 use Rattle.lists.proofs.Membership.{distinct_decides, distinct-left}
 use Rattle.lists.proofs.Places as places
-use Rattle.tables.specs.Rows.{same_number, same_row}
+use Rattle.tables.specs.Rows.{same_row}
 use Rattle.tables.specs.declared.row.Row.{Row}
-
-number_told : (a b : ℤ) → same_number a b ≡ true → a ≡ b
-number_told (pos a) (pos b) h = ap pos (eqb-true a b h)
-number_told (pos a) (negsuc b) h = absurd (true≢false (sym h))
-number_told (negsuc a) (pos b) h = absurd (true≢false (sym h))
-number_told (negsuc a) (negsuc b) h = ap negsuc (eqb-true a b h)
-
-number_itself : (a : ℤ) → same_number a a ≡ true
-number_itself (pos a) = eq-eqb a a refl
-number_itself (negsuc a) = eq-eqb a a refl
 
 pub row_tells : Tells same_row
 row_tells = record {
   told = λ x y h.
-      let parts = and_parts (same_number x.value y.value) (x.channel == y.channel) h in
-      let value = number_told x.value y.value parts.0 in
+      let parts = and_parts (int_eq x.value y.value) (x.channel == y.channel) h in
+      let value = (Decides-int_eq x.value y.value).0 parts.0 in
       let channel = eqb-true x.channel y.channel parts.1 in
       λ i. record { value = value i; channel = channel i };
-  itself = λ x. and_from _ _ (number_itself x.value) (eq-eqb x.channel x.channel refl);
+  itself = λ x. and_from _ _ ((Decides-int_eq x.value x.value).1 refl) (eq-eqb x.channel x.channel refl);
 }
 
 -- distinct rows stay distinct: without the one at a place, with a new one at a place or at the end, and without the last

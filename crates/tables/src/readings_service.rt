@@ -10,15 +10,10 @@ ghost use Rattle.std.proofs.Common.{rules, arith};
 
 use crate::notes::Undo;
 use crate::readings::{Readings, ReadingsRecord};
+use crate::readings_rows::BLANK;
 use crate::row::Row;
-use lists::{Seq, between, is_distinct, position};
+use lists::{Seq, between, position};
 use service::{Code, Doing, Done, Note, Operation, Request, Service};
-
-// What stands in the unused places of a table.
-const BLANK: Row = Row {
-    value: 0,
-    channel: 0,
-};
 
 impl Readings {
     // What is done when this is the table afterwards: its number of rows is given.
@@ -32,18 +27,18 @@ impl Readings {
         }
     }
 
-    fn put(self, row: Row) -> Result<Done<Readings>, Code>
-        ensures { Shows tabled (doing_of self result) (put_row (tabled self) row) }
+    fn put(&self, row: Row) -> Result<Done<Readings>, Code>
+        ensures { Shows tabled (doing_of self.now result) (put_row (tabled self.now) row) }
     {
         if self.rows.contains(&row) {
             return Err(Code::Already);
         }
-        let after = self.with(row).ok_or(Code::Full)?;
+        let after = self.with(row).or(Err(Code::Full))?;
         Ok(after.counted(Undo::PutIn))
     }
 
-    fn drop_row(self, row: Row) -> Result<Done<Readings>, Code>
-        ensures { Shows tabled (doing_of self result) (drop_row (tabled self) row) }
+    fn drop_row(&self, row: Row) -> Result<Done<Readings>, Code>
+        ensures { Shows tabled (doing_of self.now result) (drop_row (tabled self.now) row) }
     {
         let at = position(self.rows(), &row).ok_or(Code::Absent)?;
         let Row { value, channel } = row;
@@ -55,8 +50,8 @@ impl Readings {
         Ok(self.without(at).counted(undo))
     }
 
-    fn count(self, window: Request) -> Done<Readings>
-        ensures { Shows tabled (doing_of self (Ok result)) (count_rows (tabled self) window.first window.second) }
+    fn count(&self, window: Request) -> Done<Readings>
+        ensures { Shows tabled (doing_of self.now (Ok result)) (count_rows (tabled self.now) window.first window.second) }
     {
         let low = Row {
             value: window.first,
@@ -68,15 +63,15 @@ impl Readings {
         };
         let count = between(self.rows(), &low, &high);
         Done {
-            after: self,
+            after: *self,
             number: count as i32,
             note: Note::nothing(),
         }
     }
 
     // What comes of a request.
-    fn outcome(self, request: Request) -> Result<Done<Readings>, Code>
-        ensures { Shows tabled (doing_of self result) (operate (tabled self) request.operation request.first request.second) }
+    fn outcome(&self, request: Request) -> Result<Done<Readings>, Code>
+        ensures { Shows tabled (doing_of self.now result) (operate (tabled self.now) request.operation request.first request.second) }
     {
         let Request {
             operation,
@@ -130,22 +125,10 @@ impl Service for Readings {
     }
 
     fn from_record(plain: &ReadingsRecord) -> Readings {
-        let mut rows = Seq::new(BLANK);
-        if plain.count <= 32 {
-            let places = &plain.rows[..];
-            let held = &places[..plain.count];
-            if is_distinct(held) {
-                let _ = rows.try_extend(held);
-            }
-        }
-        Readings { rows }
+        Readings::of_record(plain).unwrap_or(Readings::clear())
     }
 
     fn to_record(&self) -> ReadingsRecord {
-        let rows = self.rows.to_array();
-        ReadingsRecord {
-            rows,
-            count: self.rows.len(),
-        }
+        self.rows.to_plain()
     }
 }

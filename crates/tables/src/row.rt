@@ -7,33 +7,15 @@ use lists::Order;
 use std::fmt;
 
 // A reading in thousandths, and the channel that it came from.
-#[derive(Clone, Copy, PartialEq, Eq, Debug)]
+#[derive(Clone, Copy, PartialEq, Eq, PartialOrd, Ord, Debug)]
 pub struct Row {
     pub value: i32,
     pub channel: u8,
 }
 
-// By value, and by channel where the values are equal.
+// Rows are compared as derived: by value, and by channel where the values are equal.
 impl Order for Row {
-    ghost same = { same_row };
-
-    ghost before = { before_row };
-
     ghost tells = { Prim.search rules };
-
-    ghost ordered = { Prim.search rules };
-
-    fn is_same(&self, other: &Row) -> bool {
-        self.value == other.value && self.channel == other.channel
-    }
-
-    fn is_before(&self, other: &Row) -> bool {
-        if self.value == other.value {
-            self.channel < other.channel
-        } else {
-            self.value < other.value
-        }
-    }
 }
 
 impl Row {

@@ -1,18 +1,16 @@
 // The stack as a service.
-ghost use Rattle.std.specs.Prelude.{◌≡◌, ◌≤◌, true, false, List, ◌∷◌, length, ℤ, Some, None, nat_lt};
+ghost use Rattle.std.specs.Prelude.{◌≡◌, ◌≤◌, true, false, List, [], ◌∷◌, length, ℤ, Some, None, Ok, Err, nat_lt};
 ghost use Rattle.service.specs.Doings.{Shows, doing_of};
 ghost use Rattle.tables.specs.StackRecords.{stacked, recorded};
-ghost use Rattle.tables.specs.Stacks.{most, Newest, push, pop, operate, stack};
+ghost use Rattle.tables.specs.Stacks.{most, push, pop, operate, stack};
 ghost use Rattle.tables.specs.StackLaws;
 ghost use Rattle.std.proofs.Common.{arith};
 ghost use Rattle.std.proofs.lemmas.List.{length-reverse};
 ghost use Rattle.std.proofs.lemmas.Bool.{le-leb};
-ghost use Rattle.lists.specs.Held.{held};
-ghost use Rattle.lists.proofs.Held.{held-within};
 
 use crate::notes::Undo;
 use crate::stack::{Stack, StackRecord};
-use lists::Seq;
+use lists::{Full, Seq};
 use service::{Code, Doing, Done, Note, Operation, Request, Service};
 
 // What stands in the unused places of a stack.
@@ -20,24 +18,21 @@ const BLANK: i32 = 0;
 
 impl Stack {
     // The stack with one more value, if there is a place for it.
-    fn with(self, value: i32) -> Option<Stack>
-        ensures { elim result [ Some s ↦ (nat_lt (length (stacked self)) most ≡ true) × (stacked s ≡ value ∷ stacked self) | None ↦ nat_lt (length (stacked self)) most ≡ false ] }
+    fn with(&self, value: i32) -> Result<Stack, Full>
+        ensures { elim result [ Ok s ↦ (nat_lt (length (stacked self.now)) most ≡ true) × (stacked s ≡ value ∷ stacked self.now) | Err _ ↦ nat_lt (length (stacked self.now)) most ≡ false ] }
     {
         let mut values = self.values;
-        if values.try_push(value) {
-            Some(Stack { values })
-        } else {
-            None
-        }
+        values.try_push(value)?;
+        Ok(Stack { values })
     }
 
-    // The stack without its newest value, and that value, if it has one.
-    fn without(self) -> (Stack, Option<i32>)
-        ensures { Newest result.1 (stacked self) (stacked result.0) }
+    // The newest value of the stack, and the stack without it, unless it is empty.
+    fn without(&self) -> Option<(i32, Stack)>
+        ensures { elim result [ Some p ↦ stacked self.now ≡ p.0 ∷ stacked p.1 | None ↦ stacked self.now ≡ [] ] }
     {
         let mut values = self.values;
-        let newest = values.pop();
-        (Stack { values }, newest)
+        let newest = values.pop()?;
+        Some((newest, Stack { values }))
     }
 
     fn depth(&self) -> usize
@@ -47,10 +42,10 @@ impl Stack {
         self.values.len()
     }
 
-    fn push(self, value: i32) -> Result<Done<Stack>, Code>
-        ensures { Shows stacked (doing_of self result) (push (stacked self) value) }
+    fn push(&self, value: i32) -> Result<Done<Stack>, Code>
+        ensures { Shows stacked (doing_of self.now result) (push (stacked self.now) value) }
     {
-        let after = self.with(value).ok_or(Code::Full)?;
+        let after = self.with(value).or(Err(Code::Full))?;
         Ok(Done {
             after,
             number: after.depth() as i32,
@@ -58,11 +53,10 @@ impl Stack {
         })
     }
 
-    fn pop(self) -> Result<Done<Stack>, Code>
-        ensures { Shows stacked (doing_of self result) (pop (stacked self)) }
+    fn pop(&self) -> Result<Done<Stack>, Code>
+        ensures { Shows stacked (doing_of self.now result) (pop (stacked self.now)) }
     {
-        let (after, newest) = self.without();
-        let value = newest.ok_or(Code::Absent)?;
+        let (value, after) = self.without().ok_or(Code::Absent)?;
         let undo = Undo::TakenOut {
             place: 0,
             value,
@@ -76,8 +70,8 @@ impl Stack {
     }
 
     // What comes of a request.
-    fn outcome(self, request: Request) -> Result<Done<Stack>, Code>
-        ensures { Shows stacked (doing_of self result) (operate (stacked self) request.operation request.first) }
+    fn outcome(&self, request: Request) -> Result<Done<Stack>, Code>
+        ensures { Shows stacked (doing_of self.now result) (operate (stacked self.now) request.operation request.first) }
     {
         match request.operation {
             Operation::Push => self.push(request.first),
@@ -100,7 +94,7 @@ impl Service for Stack {
 
     ghost lawful = { StackLaws.lawful };
 
-    ghost sound = { λ x. le-leb _ 16 (omega (arith, length-reverse (held x.values), held-within x.values)) };
+    ghost sound = { λ x. le-leb _ 16 (omega (arith, length-reverse x.values.held, x.few)) };
 
     fn clear() -> Stack {
         Stack {
@@ -115,28 +109,16 @@ impl Service for Stack {
     fn undo(self, note: Note) -> Option<Stack> {
         match Undo::try_from(note).ok()? {
             Undo::Nothing => Some(self),
-            Undo::PutIn => {
-                let (before, newest) = self.without();
-                newest.is_some().then_some(before)
-            }
-            Undo::TakenOut { value, .. } => self.with(value),
+            Undo::PutIn => self.without().map(|(_, before)| before),
+            Undo::TakenOut { value, .. } => self.with(value).ok(),
         }
     }
 
     fn from_record(plain: &StackRecord) -> Stack {
-        let mut values = Seq::new(BLANK);
-        if plain.depth <= 16 {
-            let places = &plain.values[..];
-            let _ = values.try_extend(&places[..plain.depth]);
-        }
-        Stack { values }
+        Seq::from_plain(plain, BLANK).map_or(Stack::clear(), |values| Stack { values })
     }
 
     fn to_record(&self) -> StackRecord {
-        let values = self.values.to_array();
-        StackRecord {
-            values,
-            depth: self.values.len(),
-        }
+        self.values.to_plain()
     }
 }
