@@ -6,7 +6,7 @@ ghost use Rattle.agreement.specs.BoardSets.{boards_of};
 use std::array;
 
 // How many boards there are at most.
-pub const BOARDS: usize = 7;
+pub(crate) const BOARDS: usize = 7;
 
 // Which of at most 7 boards: board c is in the set where place c holds true.
 #[derive(Clone, Copy, PartialEq, Eq, Debug)]
