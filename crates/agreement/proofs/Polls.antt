@@ -1,5 +1,5 @@
 -- Where a poll stands after one of its ballots has changed.
-use Rattle.std.proofs.Common.{◌≡◌, ℕ, zero, suc, ◌<◌, eqb, List, [], ◌∷◌, length, set, Some, Option, refl, sym, ap, ◌∙◌, arith}
+use Rattle.std.proofs.Common.{◌≡◌, ℕ, zero, suc, ◌<◌, eqb, List, [], ◌∷◌, length, set, Some, Option, option_map, refl, sym, ap, ◌∙◌, arith}
 use mathlib.Core.Path.{fun_ext}
 use Rattle.std.proofs.lemmas.Bool.{cond_both, eqb-true, eqb-false}
 use Rattle.std.specs.List.{slice_get}
@@ -7,7 +7,7 @@ use Rattle.agreement.specs.declared.ballot.Ballot.{Ballot}
 use Rattle.agreement.specs.BoardSets.{boards_of}
 use Rattle.agreement.specs.Deciding.{settled, settling}
 use Rattle.agreement.specs.Epochs.{at}
-use Rattle.agreement.specs.Polls.{decision, proposers_of, decided_of, standing_at}
+use Rattle.agreement.specs.Polls.{proposers_of, decided_of, standing_at}
 use Rattle.agreement.specs.Sets.{joined}
 use Rattle.agreement.specs.Standings.{proposing}
 
@@ -44,11 +44,11 @@ module _ (n : ℕ) (ballots : List Ballot) (epoch : ℕ) (b was : Ballot) (is : 
   standing-proposed board more same =
       let s = standing_at n ballots in
       let p = ballot-set proposers_of ballots epoch b inside ∙ ap (at s.proposed epoch) (more ∙ ap (λ o. joined board (proposers_of o)) (sym is)) in
-      let d = ballot-set decided_of ballots epoch b inside ∙ ap (at s.decided epoch) (ap decision same ∙ ap decided_of (sym is)) ∙ at-same s.decided epoch in
+      let d = ballot-set decided_of ballots epoch b inside ∙ ap (at s.decided epoch) (ap (option_map boards_of) same ∙ ap decided_of (sym is)) ∙ at-same s.decided epoch in
       rw (p, d) refl
 
   -- what may be decided is
-  pub standing-settled : b.proposers ≡ was.proposers → decision b.decided ≡ settled n (boards_of was.proposers) (decision was.decided)
+  pub standing-settled : b.proposers ≡ was.proposers → option_map boards_of b.decided ≡ settled n (boards_of was.proposers) (option_map boards_of was.decided)
       → standing_at n (set ballots epoch b) ≡ settling (standing_at n ballots) epoch
   standing-settled same decides =
       let s = standing_at n ballots in

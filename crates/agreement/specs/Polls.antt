@@ -1,26 +1,20 @@
 -- What the ballots of a poll say: who has proposed, and what is decided.
-use Rattle.std.specs.Prelude.{ℕ, Bool, cond, List, is_some, Some, None, Option, nat_le, slice_get}
+use Rattle.std.specs.Prelude.{ℕ, Bool, cond, List, is_some, Some, None, Option, nat_le, option_map, slice_get}
 use Rattle.agreement.specs.declared.ballot.Ballot.{Ballot}
-use Rattle.agreement.specs.declared.board_set.BoardSet.{BoardSet}
 use Rattle.agreement.specs.declared.refusal.AgreementRefusal.{AgreementRefusal}
 use Rattle.agreement.specs.declared.refusal.AgreementRefusal.TheVariants.{Unknown, TooFew}
 use Rattle.agreement.specs.BoardSets.{boards_of}
 use Rattle.agreement.specs.Sets.{nobody}
 use Rattle.agreement.specs.Standings.{Standing}
 
--- a decided set's boards
-abbrev pub decision : Option BoardSet → Option (ℕ → Bool)
-decision (Some s) = Some (boards_of s)
-decision None = None
-
 -- the boards that have proposed by a ballot; where there is none, nobody
 abbrev pub proposers_of : Option Ballot → ℕ → Bool
 proposers_of (Some ballot) = boards_of ballot.proposers
 proposers_of None = nobody
 
--- the decided set of a ballot; where there is none, none
+-- the boards of its decided set, if there is one; where there is no ballot, none
 abbrev pub decided_of : Option Ballot → Option (ℕ → Bool)
-decided_of (Some ballot) = decision ballot.decided
+decided_of (Some ballot) = option_map boards_of ballot.decided
 decided_of None = None
 
 -- what n boards and the ballots of the epochs say

@@ -1,8 +1,7 @@
 // What is known of one epoch.
-ghost use Rattle.std.specs.Prelude.{◌≡◌, if◌then◌else◌, nat_lt, None};
+ghost use Rattle.std.specs.Prelude.{◌≡◌, if◌then◌else◌, nat_lt, None, option_map};
 ghost use Rattle.agreement.specs.BoardSets.{boards_of};
 ghost use Rattle.agreement.specs.Deciding.{settled};
-ghost use Rattle.agreement.specs.Polls.{decision};
 ghost use Rattle.agreement.specs.Sets.{nobody, joined};
 
 use crate::board_set::BoardSet;
@@ -28,7 +27,8 @@ impl Ballot {
 
     // The ballot with one proposer more.
     pub(crate) fn with(self, board: usize) -> Ballot
-        ensures proposers { boards_of result.proposers ≡ (if nat_lt board 7 then joined board (boards_of self.proposers) else boards_of self.proposers) }
+        ensures proposers { let proposers = boards_of self.proposers in
+            boards_of result.proposers ≡ (if nat_lt board 7 then joined board proposers else proposers) }
         ensures decided { result.decided ≡ self.decided }
     {
         Ballot {
@@ -40,7 +40,8 @@ impl Ballot {
     // The ballot in which all that have proposed are decided, if they are a majority of `n` and nothing is decided yet.
     pub(crate) fn settle(self, n: usize) -> Ballot
         ensures proposers { result.proposers ≡ self.proposers }
-        ensures decided { decision result.decided ≡ settled n (boards_of self.proposers) (decision self.decided) }
+        ensures decided { option_map boards_of result.decided
+            ≡ settled n (boards_of self.proposers) (option_map boards_of self.decided) }
     {
         let decided = self
             .decided

@@ -16,7 +16,9 @@ pub(crate) struct BoardCount {
 impl TryFrom<usize> for BoardCount {
     type Error = AgreementRefusal;
 
-    ghost try_from_gives = { λ n made. MatchResult made (λ count. (clear_refusal n ≡ None) × (count.n ≡ n)) (λ e. clear_refusal n ≡ Some e) };
+    ghost try_from_gives = { λ n made. MatchResult made
+        (λ count. (clear_refusal n ≡ None) × (count.n ≡ n))
+        (λ e. clear_refusal n ≡ Some e) };
 
     fn try_from(n: usize) -> Result<BoardCount, AgreementRefusal> {
         if n == 0 || n > BOARDS {

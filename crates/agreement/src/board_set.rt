@@ -26,7 +26,8 @@ impl BoardSet {
 
     // The set with one board more; 7 and above are no boards, and change nothing.
     pub fn with(self, board: usize) -> BoardSet
-        ensures { boards_of result ≡ (if nat_lt board 7 then joined board (boards_of self) else boards_of self) }
+        ensures { boards_of result
+            ≡ (if nat_lt board 7 then joined board (boards_of self) else boards_of self) }
     {
         let mut on = self.on;
         if board < BOARDS {

@@ -28,7 +28,10 @@ impl Poll {
 
     // The poll in which the board has proposed in the epoch, too.
     pub(crate) fn propose(self, epoch: usize, board: usize) -> Result<Poll, AgreementRefusal>
-        ensures { let refusal = propose_refusal (standing_of self) epoch board in MatchResult result (λ p. (refusal ≡ None) × (standing_of p ≡ proposing (standing_of self) epoch board)) (λ e. refusal ≡ Some e) }
+        ensures { let refusal = propose_refusal (standing_of self) epoch board in
+            MatchResult result
+            (λ p. (refusal ≡ None) × (standing_of p ≡ proposing (standing_of self) epoch board))
+            (λ e. refusal ≡ Some e) }
     {
         if epoch >= EPOCHS || board >= self.count.n {
             return Err(AgreementRefusal::Unknown);
@@ -57,7 +60,10 @@ impl Poll {
 
     // The decided set of the epoch.
     pub(crate) fn answer(self, epoch: usize) -> Result<BoardSet, AgreementRefusal>
-        ensures { let refusal = answer_refusal (standing_of self) epoch in MatchResult result (λ s. (refusal ≡ None) × ((standing_of self).decided epoch ≡ Some (boards_of s))) (λ e. refusal ≡ Some e) }
+        ensures { let refusal = answer_refusal (standing_of self) epoch in
+            MatchResult result
+            (λ s. (refusal ≡ None) × ((standing_of self).decided epoch ≡ Some (boards_of s)))
+            (λ e. refusal ≡ Some e) }
     {
         let ballot = self.ballots.get(epoch).ok_or(AgreementRefusal::Unknown)?;
         ballot.decided.ok_or(AgreementRefusal::TooFew)

@@ -38,7 +38,8 @@ impl<T: Timing> Agreement for Polling<T> {
     // Decides all that have proposed, if this proposal completes a majority and `T` is at once; else nothing.
     fn propose(&mut self, epoch: usize, board: usize) -> Result<(), AgreementRefusal>
         ensures does { Proposes (λ it. standing_of it.poll) self.old self.new epoch board result }
-        ensures rule { OnOk result (standing_of self.new.poll ≡ (if T.AT_ONCE then settling (proposing (standing_of self.old.poll) epoch board) epoch else proposing (standing_of self.old.poll) epoch board)) }
+        ensures rule { let proposed = proposing (standing_of self.old.poll) epoch board in
+            OnOk result (standing_of self.new.poll ≡ (if T.AT_ONCE then settling proposed epoch else proposed)) }
     {
         let poll = self.poll.propose(epoch, board)?;
         self.poll = if T::AT_ONCE { poll.settle(epoch) } else { poll };
@@ -48,7 +49,9 @@ impl<T: Timing> Agreement for Polling<T> {
     // Decides nothing, if `T` is at once; else all that have proposed, unless a set is decided already.
     fn learn(&mut self, epoch: usize) -> Result<BoardSet, AgreementRefusal>
         ensures does { Learns (λ it. standing_of it.poll) self.old self.new epoch result }
-        ensures rule { MatchBool T.AT_ONCE (self.new ≡ self.old) (OnOk result (standing_of self.new.poll ≡ settling (standing_of self.old.poll) epoch)) }
+        ensures rule { MatchBool T.AT_ONCE
+            (self.new ≡ self.old)
+            (OnOk result (standing_of self.new.poll ≡ settling (standing_of self.old.poll) epoch)) }
     {
         if T::AT_ONCE {
             return self.poll.answer(epoch);
