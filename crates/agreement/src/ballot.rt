@@ -6,7 +6,8 @@ ghost use Rattle.agreement.specs.Sets.{nobody, joined};
 
 use crate::board_set::BoardSet;
 
-// The boards that have proposed in an epoch, and its decided set.
+// The boards that have proposed in an epoch, and its decided set. That the set lies within them is a part of `Sound`, which the
+// poll keeps whole, and so no ghost field here.
 #[derive(Clone, Copy)]
 pub(crate) struct Ballot {
     pub(crate) proposers: BoardSet,

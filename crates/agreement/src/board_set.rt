@@ -8,7 +8,8 @@ use std::array;
 // How many boards there are at most.
 pub(crate) const BOARDS: usize = 7;
 
-// Which of at most 7 boards: board c is in the set where place c holds true.
+// Which of at most 7 boards: board c is in the set where place c holds true. An array, since an answer must not depend on
+// free memory.
 #[derive(Clone, Copy, PartialEq, Eq, Debug)]
 pub struct BoardSet {
     on: [bool; BOARDS],

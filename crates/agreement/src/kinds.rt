@@ -7,7 +7,7 @@ use crate::poll::Poll;
 use std::alloc::AllocError;
 use std::marker::PhantomData;
 
-// When a set becomes decided.
+// When a set becomes decided. A type, since a struct with a ghost field takes no `bool` as a const parameter.
 pub trait Timing {
     ghost AT_ONCE: { Bool };
 

@@ -8,7 +8,7 @@ use crate::board_count::BoardCount;
 // How many epochs there are.
 pub(crate) const EPOCHS: usize = 16;
 
-// How many boards there are, and the ballot of each epoch.
+// How many boards there are, and the ballot of each epoch. An array, since an answer must not depend on free memory.
 #[derive(Clone, Copy)]
 pub(crate) struct Poll {
     pub(crate) count: BoardCount,

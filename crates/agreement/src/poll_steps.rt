@@ -40,6 +40,7 @@ impl Poll {
         if ballot.proposers.contains(board) {
             return Err(AgreementRefusal::Already);
         }
+        // By index, since `get_mut` leaves unsaid what the array then holds.
         let mut poll = self;
         poll.ballots[epoch] = ballot.with(board);
         Ok(poll)

@@ -37,7 +37,7 @@ impl fmt::Display for AgreementRefusal {
             AgreementRefusal::Size => "the number of boards is not 1 to 7",
             AgreementRefusal::Unknown => "there is no such epoch, or no such board",
             AgreementRefusal::Already => "the board has proposed in the epoch already",
-            AgreementRefusal::TooFew => "too few boards have proposed in the epoch",
+            AgreementRefusal::TooFew => "fewer than a majority have proposed in the epoch",
         })
     }
 }
