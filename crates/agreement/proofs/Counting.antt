@@ -1,21 +1,21 @@
 -- How many boards are in a set.
-use Rattle.std.proofs.Common.{◌≡◌, ℕ, zero, suc, ◌+◌, ◌<◌, ◌≤◌, Bool, true, false, cond, ◌⊎◌, refl, ap, inl, inr, add-one, arith}
-use Rattle.std.proofs.lemmas.Bool.{cases_Bool, cases_eq}
+use Rattle.std.proofs.Common.{◌≡◌, ℕ, zero, suc, ◌+◌, ◌<◌, ◌≤◌, Bool, true, false, cond, ◌⊎◌, List, length, get_or, take, count_by, refl, sym, ap, ◌∙◌, inl, inr, ⊎_elim, add-one, arith}
+use Rattle.std.proofs.lemmas.Bool.{cases_Bool, cases_lt}
+use Rattle.std.proofs.lemmas.List.Sums.{count_by_more_yes, count_by_more_no}
+use Rattle.std.proofs.lemmas.List.{get_or_past, take_all}
 use Rattle.agreement.specs.Sets.{count}
 use Rattle.agreement.specs.Majorities.{Shared}
 
--- one board more
-pub count_step : (i : ℕ) (w : ℕ → Bool) → count (i + 1) w ≡ cond (w i) 1 0 + count i w
-count_step i w = ap (λ n. count n w) (add-one i)
-
--- boards that are not there do not count
-pub count_past : (n m : ℕ) (w : ℕ → Bool) → ((c : ℕ) → m ≤ c → w c ≡ false) → m ≤ n → count n w ≡ count m w
-count_past zero m w none h = let z : m ≡ 0 = omega arith in rw z
-count_past (suc n) m w none h = go (cases_eq m (suc n)) (count_past n m w none)
-  where
-    go : (m ≡ suc n) ⊎ (m ≡ suc n → ⊥) → (m ≤ n → count n w ≡ count m w) → cond (w n) 1 0 + count n w ≡ count m w
-    go (inl e) r = rw e
-    go (inr d) r = let l : m ≤ n = omega arith in rw (none n l) (omega (arith, r l))
+-- the boards of a table that hold true, counted up to board n
+pub count-take : (on : List Bool) (n : ℕ) → count_by (λ b. b) (take n on) ≡ count n (λ c. get_or on c false)
+count-take on zero = refl
+count-take on (suc n) = ⊎_elim
+    (λ under. ⊎_elim
+    (λ is. rw is (ap (λ i. count_by (λ b. b) (take i on)) (sym (add-one n)) ∙ count_by_more_yes (λ b. b) on n false under is ∙ omega (arith, count-take on n)))
+    (λ is. rw is (ap (λ i. count_by (λ b. b) (take i on)) (sym (add-one n)) ∙ count_by_more_no (λ b. b) on n false under is ∙ omega (arith, count-take on n)))
+    (cases_Bool (get_or on n false)))
+    (λ over. rw (get_or_past on n false over, take_all (suc n) on (omega arith)) (ap (count_by (λ b. b)) (sym (take_all n on over)) ∙ omega (arith, count-take on n)))
+    (cases_lt n (length on))
 
 -- a larger set counts no less
 pub count-more : (n : ℕ) (u w : ℕ → Bool) → ((c : ℕ) → c < n → u c ≡ true → w c ≡ true) → count n u ≤ count n w

@@ -1,6 +1,6 @@
 pub mod Counting
+pub mod Filling
 pub mod Majorities
-pub mod Sets
 pub mod Agreements
 pub mod Polls
 pub mod Settling

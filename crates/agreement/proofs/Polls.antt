@@ -1,38 +1,57 @@
--- The table of a poll: when it is empty, and after a board has proposed.
-use Rattle.std.proofs.Common.{◌≡◌, ℕ, zero, suc, ◌<◌, false, eqb, List, [], length, set, replicate, None, Option, refl, ap, ◌∙◌}
+-- Where a poll stands after one of its ballots has changed.
+use Rattle.std.proofs.Common.{◌≡◌, ℕ, zero, suc, ◌<◌, eqb, List, [], ◌∷◌, length, set, Some, Option, option_map, refl, sym, ap, ◌∙◌, arith}
 use mathlib.Core.Path.{fun_ext}
-use Rattle.std.proofs.lemmas.List.{get_or-set_same, get_or-set_other}
 use Rattle.std.proofs.lemmas.Bool.{cond_both, eqb-true, eqb-false}
-use Rattle.agreement.specs.declared.board_set.BoardSet.{BoardSet}
-use Rattle.agreement.specs.Agreements.{adding}
+use Rattle.std.specs.List.{slice_get}
+use Rattle.agreement.specs.declared.ballot.Ballot.{Ballot}
 use Rattle.agreement.specs.BoardSets.{boards_of}
+use Rattle.agreement.specs.Deciding.{settled, settling}
 use Rattle.agreement.specs.Epochs.{at}
-use Rattle.agreement.specs.Polls.{proposed_in, decided_in, decision}
-use Rattle.agreement.specs.Sets.{nobody, joined}
+use Rattle.agreement.specs.Polls.{proposers_of, decided_of, standing_at}
+use Rattle.agreement.specs.Sets.{joined}
+use Rattle.agreement.specs.Standings.{proposing}
 
--- in a table of empty sets nobody has proposed
-pub proposed-empty : (n : ℕ) (s : BoardSet) → boards_of s ≡ nobody → (e c : ℕ) → proposed_in (replicate n s) e c ≡ false
-proposed-empty zero s h e c = refl
-proposed-empty (suc n) s h zero c = ap (λ w. w c) h
-proposed-empty (suc n) s h (suc e) c = proposed-empty n s h e c
+-- the place that was written
+slice_get-set_same : (l : List Ballot) (i : ℕ) (b : Ballot) → i < length l → slice_get (set l i b) i ≡ Some b
+slice_get-set_same [] i b h = absurd (omega arith)
+slice_get-set_same (x ∷ l) zero b h = refl
+slice_get-set_same (x ∷ l) (suc i) b h = slice_get-set_same l i b (omega arith)
 
--- nothing is decided
-pub decided_empty : (n e : ℕ) → decided_in (replicate n None) e ≡ None
-decided_empty zero e = refl
-decided_empty (suc n) zero = refl
-decided_empty (suc n) (suc e) = decided_empty n e
+-- another place
+slice_get-set_other : (l : List Ballot) (i j : ℕ) (b : Ballot) → (j ≡ i → ⊥) → slice_get (set l i b) j ≡ slice_get l j
+slice_get-set_other [] i j b h = refl
+slice_get-set_other (x ∷ l) zero zero b h = absurd (h refl)
+slice_get-set_other (x ∷ l) zero (suc j) b h = refl
+slice_get-set_other (x ∷ l) (suc i) zero b h = refl
+slice_get-set_other (x ∷ l) (suc i) (suc j) b h = slice_get-set_other l i j b (λ e. h (ap suc e))
 
--- a board more in one row
-pub proposed-set : (rows : List BoardSet) (s : BoardSet) (epoch board : ℕ) → epoch < length rows
-    → boards_of s ≡ joined board (proposed_in rows epoch) → proposed_in (set rows epoch s) ≡ adding (proposed_in rows) epoch board
-proposed-set rows s epoch board inside h =
-    fun_ext (λ e. cond_both (eqb e epoch) (joined board (proposed_in rows epoch)) (proposed_in rows e) (λ w. proposed_in (set rows epoch s) e ≡ w)
-    (λ q. let here = eqb-true e epoch q in rw here (ap boards_of (get_or-set_same rows epoch s (record { on = [] }) inside) ∙ h))
-    (λ q. ap boards_of (get_or-set_other rows epoch e s (record { on = [] }) (eqb-false e epoch q))))
+-- what the ballots say of each epoch, with another ballot in one
+ballot-set : {A : Type 0} (v : Option Ballot → A) (ballots : List Ballot) (epoch : ℕ) (b : Ballot) → epoch < length ballots
+    → (λ e. v (slice_get (set ballots epoch b) e)) ≡ at (λ e. v (slice_get ballots e)) epoch (v (Some b))
+ballot-set v ballots epoch b inside =
+    fun_ext (λ e. cond_both (eqb e epoch) (v (Some b)) (v (slice_get ballots e)) (λ x. v (slice_get (set ballots epoch b) e) ≡ x)
+    (λ q. let here = eqb-true e epoch q in rw here (ap v (slice_get-set_same ballots epoch b inside)))
+    (λ q. ap v (slice_get-set_other ballots epoch e b (eqb-false e epoch q))))
 
--- another decision in one row
-pub decided_set : (rows : List (Option BoardSet)) (o : Option BoardSet) (epoch : ℕ) → epoch < length rows → decided_in (set rows epoch o) ≡ at (decided_in rows) epoch (decision o)
-decided_set rows o epoch inside =
-    fun_ext (λ e. cond_both (eqb e epoch) (decision o) (decided_in rows e) (λ w. decided_in (set rows epoch o) e ≡ w)
-    (λ q. let here = eqb-true e epoch q in rw here (ap decision (get_or-set_same rows epoch o None inside)))
-    (λ q. ap decision (get_or-set_other rows epoch e o None (eqb-false e epoch q))))
+-- an epoch's own value put in again
+at-same : {A : Type 0} (f : ℕ → A) (epoch : ℕ) → at f epoch (f epoch) ≡ f
+at-same f epoch = fun_ext (λ e. cond_both (eqb e epoch) (f epoch) (f e) (λ x. x ≡ f e) (λ q. let here = eqb-true e epoch q in ap f (sym here)) (λ q. refl))
+
+module _ (n : ℕ) (ballots : List Ballot) (epoch : ℕ) (b was : Ballot) (is : slice_get ballots epoch ≡ Some was) (inside : epoch < length ballots) where
+  -- a board has proposed
+  pub standing-proposed : (board : ℕ) → boards_of b.proposers ≡ joined board (boards_of was.proposers) → b.decided ≡ was.decided
+      → standing_at n (set ballots epoch b) ≡ proposing (standing_at n ballots) epoch board
+  standing-proposed board more same =
+      let s = standing_at n ballots in
+      let p = ballot-set proposers_of ballots epoch b inside ∙ ap (at s.proposed epoch) (more ∙ ap (λ o. joined board (proposers_of o)) (sym is)) in
+      let d = ballot-set decided_of ballots epoch b inside ∙ ap (at s.decided epoch) (ap (option_map boards_of) same ∙ ap decided_of (sym is)) ∙ at-same s.decided epoch in
+      rw (p, d) refl
+
+  -- what may be decided is
+  pub standing-settled : b.proposers ≡ was.proposers → option_map boards_of b.decided ≡ settled n (boards_of was.proposers) (option_map boards_of was.decided)
+      → standing_at n (set ballots epoch b) ≡ settling (standing_at n ballots) epoch
+  standing-settled same decides =
+      let s = standing_at n ballots in
+      let p = ballot-set proposers_of ballots epoch b inside ∙ ap (at s.proposed epoch) (ap boards_of same ∙ ap proposers_of (sym is)) ∙ at-same s.proposed epoch in
+      let d = ballot-set decided_of ballots epoch b inside ∙ ap (at s.decided epoch) (decides ∙ ap (λ o. settled n (proposers_of o) (decided_of o)) (sym is)) in
+      rw (p, d) refl

@@ -2,8 +2,9 @@ pub mod Epochs
 pub mod Sets
 pub mod BoardSets
 pub mod Majorities
+pub mod Standings
 pub mod Refusals
 pub mod Agreements
 pub mod Polls
 pub mod Deciding
-pub mod Kinds
+pub mod PollStandings

@@ -1,28 +1,26 @@
--- What the table of a poll says: who has proposed, and what is decided.
-use Rattle.std.specs.Prelude.{ℕ, Bool, false, cond, List, [], is_some, Some, None, Option, nat_le, slice_index_or}
-use Rattle.agreement.specs.declared.board_set.BoardSet.{BoardSet}
+-- What the ballots of a poll say: who has proposed, and what is decided.
+use Rattle.std.specs.Prelude.{ℕ, Bool, cond, List, is_some, Some, None, Option, nat_le, option_map, slice_get}
+use Rattle.agreement.specs.declared.ballot.Ballot.{Ballot}
 use Rattle.agreement.specs.declared.refusal.AgreementRefusal.{AgreementRefusal}
 use Rattle.agreement.specs.declared.refusal.AgreementRefusal.TheVariants.{Unknown, TooFew}
 use Rattle.agreement.specs.BoardSets.{boards_of}
+use Rattle.agreement.specs.Sets.{nobody}
+use Rattle.agreement.specs.Standings.{Standing}
 
--- the boards that have proposed in each epoch
-abbrev pub proposed_in : List BoardSet → ℕ → ℕ → Bool
-proposed_in rows = λ e. boards_of (slice_index_or rows e (record { on = [] }))
+-- the boards that have proposed by a ballot; where there is none, nobody
+abbrev pub proposers_of : Option Ballot → ℕ → Bool
+proposers_of (Some ballot) = boards_of ballot.proposers
+proposers_of None = nobody
 
--- a decided set's boards
-abbrev pub decision : Option BoardSet → Option (ℕ → Bool)
-decision (Some s) = Some (boards_of s)
-decision None = None
+-- the boards of its decided set, if there is one; where there is no ballot, none
+abbrev pub decided_of : Option Ballot → Option (ℕ → Bool)
+decided_of (Some ballot) = option_map boards_of ballot.decided
+decided_of None = None
 
--- the decided set of each epoch
-abbrev pub decided_in : List (Option BoardSet) → ℕ → Option (ℕ → Bool)
-decided_in sets = λ e. decision (slice_index_or sets e None)
-
--- whether a board is in a decided set
-abbrev pub chosen : Option (ℕ → Bool) → ℕ → Bool
-chosen (Some w) c = w c
-chosen None c = false
+-- what n boards and the ballots of the epochs say
+abbrev pub standing_at : ℕ → List Ballot → Standing
+standing_at n ballots = record { size = n; proposed = λ e. proposers_of (slice_get ballots e); decided = λ e. decided_of (slice_get ballots e) }
 
 -- a decided set is answered, in epochs 0 to 15
-abbrev pub answer_refusal : (ℕ → Option (ℕ → Bool)) → ℕ → Option AgreementRefusal
-answer_refusal decided epoch = cond (nat_le 16 epoch) (Some Unknown) (cond (is_some (decided epoch)) None (Some TooFew))
+abbrev pub answer_refusal : Standing → ℕ → Option AgreementRefusal
+answer_refusal s epoch = cond (nat_le 16 epoch) (Some Unknown) (cond (is_some (s.decided epoch)) None (Some TooFew))

@@ -2,6 +2,9 @@
 ghost use Rattle.std.specs.Prelude.{◌≡◌};
 ghost use Rattle.agreement.specs.Refusals.{number_of};
 
+use std::error::Error;
+use std::fmt;
+
 #[derive(Clone, Copy, PartialEq, Eq, Debug)]
 pub enum AgreementRefusal {
     // The number of boards is not 1 to 7.
@@ -14,12 +17,12 @@ pub enum AgreementRefusal {
     TooFew,
 }
 
-impl AgreementRefusal {
-    // The number under which the refusal is reported.
-    pub fn number(self) -> u8
-        ensures { result ≡ number_of self }
-    {
-        match self {
+// The number under which the refusal is reported.
+impl From<AgreementRefusal> for u8 {
+    ghost from_gives = { λ refusal number. number ≡ number_of refusal };
+
+    fn from(refusal: AgreementRefusal) -> u8 {
+        match refusal {
             AgreementRefusal::Size => 1,
             AgreementRefusal::Unknown => 4,
             AgreementRefusal::Already => 8,
@@ -27,3 +30,16 @@ impl AgreementRefusal {
         }
     }
 }
+
+impl fmt::Display for AgreementRefusal {
+    fn fmt<W: fmt::Write>(&self, f: &mut fmt::Formatter<W>) -> fmt::Result {
+        f.write_str(match self {
+            AgreementRefusal::Size => "the number of boards is not 1 to 7",
+            AgreementRefusal::Unknown => "there is no such epoch, or no such board",
+            AgreementRefusal::Already => "the board has proposed in the epoch already",
+            AgreementRefusal::TooFew => "fewer than a majority have proposed in the epoch",
+        })
+    }
+}
+
+impl Error for AgreementRefusal {}
