@@ -12,8 +12,8 @@ use Rattle.std.specs.List.{slice_get}
 use Rattle.lines.specs.Parts.{start}
 use Rattle.lines.specs.Reading.{then, raised, number_of, present, number_at, numbers_of}
 use Rattle.lines.specs.Words.{Kind, channel, value}
-use Rattle.lines.proofs.ChannelLaws.{channel-reads_as}
-use Rattle.lines.proofs.ValueLaws.{value-reads_as}
+use Rattle.lines.proofs.ChannelLaws.{channel_reads_as}
+use Rattle.lines.proofs.ValueLaws.{value_reads_as}
 
 -- what was read before what
 pub then_ok : {A B E : Type 0} (r : Result A E) (go : A → Result B E) (y : B) → then r go ≡ Ok y → (x : A) × (r ≡ Ok x) × (go x ≡ Ok y)
@@ -37,18 +37,18 @@ raised_err f (Err c) d e = let same : c ≡ d = cc in ap Err same
 number_read : (k : Kind) (p : Place) (z : ℤ) → number_of k p ≡ Ok z → Means k p.text z
 number_read channel p z e =
     let r = raised_ok pos (channel_of p) z e in
-    (r.0, (channel-reads_as p (channel_of p) refl).read r.0 r.1, r.2)
+    (r.0, (channel_reads_as p (channel_of p) refl).read r.0 r.1, r.2)
 number_read value p z e =
     let r = raised_ok (λ z. z) (value_of p) z e in
-    subst (Value p.text) (sym r.2) ((value-reads_as p (value_of p) refl).read r.0 r.1)
+    subst (Value p.text) (sym r.2) ((value_reads_as p (value_of p) refl).read r.0 r.1)
 
 number-readable : (k : Kind) (p : Place) (z : ℤ) → Means k p.text z → number_of k p ≡ Ok z
-number-readable channel p z m = ap (raised pos) ((channel-reads_as p (channel_of p) refl).readable m.0 m.1) ∙ ap Ok (sym m.2)
-number-readable value p z m = ap (raised (λ z. z)) ((value-reads_as p (value_of p) refl).readable z m)
+number-readable channel p z m = ap (raised pos) ((channel_reads_as p (channel_of p) refl).readable m.0 m.1) ∙ ap Ok (sym m.2)
+number-readable value p z m = ap (raised (λ z. z)) ((value_reads_as p (value_of p) refl).readable z m)
 
 number-offset : (k : Kind) (p : Place) (field at : ℕ) → number_of k p ≡ Err (Number (Form field at)) → (field ≡ p.number) × Breaks (Good k) p.text at
-number-offset channel p field at e = (channel-reads_as p (channel_of p) refl).offset field at (raised_err pos (channel_of p) (Form field at) e)
-number-offset value p field at e = (value-reads_as p (value_of p) refl).offset field at (raised_err (λ z. z) (value_of p) (Form field at) e)
+number-offset channel p field at e = (channel_reads_as p (channel_of p) refl).offset field at (raised_err pos (channel_of p) (Form field at) e)
+number-offset value p field at e = (value_reads_as p (value_of p) refl).offset field at (raised_err (λ z. z) (value_of p) (Form field at) e)
 
 -- a field's number, where the field is there
 module _ (k : Kind) (line : List ℕ) (n : ℕ) where

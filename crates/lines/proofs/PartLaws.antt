@@ -1,6 +1,6 @@
 -- Laws of a text cut at marks.
 use Rattle.std.proofs.Common.{◌≡◌, ℕ, zero, suc, ◌+◌, ◌-◌, ◌<◌, ◌≤◌, eqb, List, [], ◌∷◌, ◌++◌, length, take, drop, Some, None, Option, sym, refl, ap, ◌∙◌, add-zero, add_assoc, arith, Bor}
-use Rattle.std.proofs.lemmas.List.{take_all, take_at, take-append-drop, drop_more, drop_at, drop-drop, append_assoc, length-append, length-drop, length_push}
+use Rattle.std.proofs.lemmas.List.{take_all, take_at, drop_at, drop-drop, append_assoc, length-append, length-drop, length_push}
 use Rattle.std.proofs.lemmas.List.Splits.{slice_split-cons_yes, slice_split-cons_no, length-slice_split}
 use Rattle.std.proofs.lemmas.Bool.{eq-eqb, ne_eqb}
 use Rattle.std.specs.List.{slice_get, onto_first}
@@ -23,12 +23,6 @@ parts-absent mark [] none = refl
 parts-absent mark (b ∷ bs) none =
     slice_split-cons_no (λ x. eqb x mark) b bs (ne_eqb b mark (none 0 (omega arith)))
     ∙ ap (onto_first b) (parts-absent mark bs (λ k lt. none (suc k) (omega arith)))
-
--- the text is what stands before the first mark, the mark, and what stands behind it
-pub first-whole : (mark : ℕ) (text : List ℕ) (at : ℕ) → First mark text at → text ≡ take at text ++ (mark ∷ drop (at + 1) text)
-first-whole mark text at f =
-    sym (take-append-drop at text)
-    ∙ ap (λ l. take at text ++ l) (drop_more text at 0 f.within ∙ ap (λ b. b ∷ drop (at + 1) text) f.here)
 
 -- after some parts and their marks, the rest of a text has the other parts
 pub record Passed (mark : ℕ) (text rest : List ℕ) (at count : ℕ) : Type 0 where
