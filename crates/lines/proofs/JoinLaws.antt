@@ -11,7 +11,9 @@ use Rattle.lines.specs.Asking.{Means, Numbers}
 use Rattle.lines.specs.Fields.{semicolon, fields, joined, Parted}
 use Rattle.lines.specs.Forms.{text, Numeral, Size}
 use Rattle.lines.specs.Parts.{First, Absent}
-use Rattle.lines.specs.Words.{Kind, channel, value, word}
+use Rattle.lines.specs.declared.kind.Kind.{Kind}
+use Rattle.lines.specs.declared.kind.Kind.TheVariants.{Channel as channel, Value as value}
+use Rattle.lines.specs.Words.{word}
 use Rattle.lines.proofs.PartLaws.{parts_first, parts-absent}
 
 -- a line is its fields, joined

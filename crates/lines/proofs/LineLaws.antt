@@ -11,7 +11,8 @@ use Rattle.lines.specs.Numbers.{channel_of, value_of}
 use Rattle.std.specs.List.{slice_get}
 use Rattle.lines.specs.Parts.{start}
 use Rattle.lines.specs.Reading.{then, raised, number_of, present, number_at, numbers_of}
-use Rattle.lines.specs.Words.{Kind, channel, value}
+use Rattle.lines.specs.declared.kind.Kind.{Kind}
+use Rattle.lines.specs.declared.kind.Kind.TheVariants.{Channel as channel, Value as value}
 use Rattle.lines.proofs.ChannelLaws.{channel_reads_as}
 use Rattle.lines.proofs.ValueLaws.{value_reads_as}
 

@@ -8,7 +8,9 @@ use Rattle.lines.specs.declared.fault.NumberFault.{NumberFault}
 use Rattle.lines.specs.Fields.{Place, fields, field_of}
 use Rattle.lines.specs.Numbers.{channel_of, value_of}
 use Rattle.std.specs.List.{slice_get}
-use Rattle.lines.specs.Words.{Kind, channel, value, kinds, operation_of_word}
+use Rattle.lines.specs.declared.kind.Kind.{Kind}
+use Rattle.lines.specs.declared.kind.Kind.TheVariants.{Channel as channel, Value as value}
+use Rattle.lines.specs.Words.{kinds, operation_of_word}
 
 -- go on with what was read, or keep the fault
 abbrev pub then : {A B E : Type 0} → Result A E → (A → Result B E) → Result B E
