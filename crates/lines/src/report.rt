@@ -1,6 +1,6 @@
 // Faults as numbers, and in words.
-ghost use Rattle.std.specs.Prelude.{◌≡◌};
-ghost use Rattle.lines.specs.Faults.{number_report, line_report};
+ghost use Rattle.std.specs.Prelude.{◌≡◌, Some};
+ghost use Rattle.lines.specs.Faults.{number_report, line_report, number_words, line_text};
 
 use crate::fault::{LineFault, NumberFault, Report};
 use std::error::Error;
@@ -47,16 +47,20 @@ impl From<LineFault> for Report {
 
 // What is wrong with a number, in words.
 impl fmt::Display for NumberFault {
+    ghost output = { λ e. Some (number_words e) };
+
     fn fmt<W: fmt::Write>(&self, f: &mut fmt::Formatter<W>) -> fmt::Result {
-        match self {
-            NumberFault::Form { .. } => write!(f, "the number breaks its form here"),
-            NumberFault::Limit { .. } => write!(f, "the channel is over 255"),
-        }
+        f.write_str(match self {
+            NumberFault::Form { .. } => "the number breaks its form here",
+            NumberFault::Limit { .. } => "the channel is over 255",
+        })
     }
 }
 
 // The fault with its numbers, then in words.
 impl fmt::Display for LineFault {
+    ghost output = { λ e. Some (line_text e) };
+
     fn fmt<W: fmt::Write>(&self, f: &mut fmt::Formatter<W>) -> fmt::Result {
         let Report {
             cause,
