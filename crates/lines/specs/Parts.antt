@@ -2,6 +2,7 @@
 use Rattle.std.specs.Prelude.{◌≡◌, ℕ, zero, suc, ◌+◌, ◌<◌, List, [], ◌∷◌, ◌++◌, length, Some, None, Option, ◌==◌, ◌≢◌, slice_index, slice_index_or}
 use Rattle.std.specs.Borrow.{Bor}
 use Rattle.std.specs.List.{slice_split}
+use Rattle.std.specs.Str.Iter.{LacksByte}
 
 -- the parts of a text between its marks: at least one, and any of them may be empty
 abbrev pub parts : ℕ → List ℕ → List (List ℕ)
@@ -21,7 +22,7 @@ pub record First (mark : ℕ) (text : List ℕ) (at : ℕ) : Type 0 where
 
 -- the mark stands nowhere in the text
 abbrev pub Absent : ℕ → List ℕ → Type 0
-Absent mark text = (k : ℕ) → k < length text → slice_index text k ≢ mark
+Absent mark text = LacksByte mark text
 
 -- the first part, and the parts of what follows its mark, if there is one
 abbrev pub beside : ℕ → List ℕ → Option (Bor (List ℕ)) → List (List ℕ)

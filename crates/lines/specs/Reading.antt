@@ -8,6 +8,7 @@ use Rattle.lines.specs.declared.fault.NumberFault.{NumberFault}
 use Rattle.lines.specs.Fields.{Place, fields, field_of}
 use Rattle.lines.specs.Numbers.{channel_of, value_of}
 use Rattle.std.specs.List.{slice_get}
+use Rattle.std.specs.Option.{ok_or, option_and_then}
 use Rattle.lines.specs.declared.kind.Kind.{Kind}
 use Rattle.lines.specs.declared.kind.Kind.TheVariants.{Channel as channel, Value as value}
 use Rattle.lines.specs.Words.{kinds, operation_of_word}
@@ -36,15 +37,9 @@ present k n None = Err (Missing n)
 abbrev pub number_at : Kind → List ℕ → ℕ → Result ℤ LineFault
 number_at k line n = present k n (field_of line n)
 
--- a word that no operation has is a fault
-abbrev pub known : Option Operation → Result Operation LineFault
-known (Some op) = Ok op
-known None = Err Word
-
--- the operation that the text of field 0 asks for
+-- the operation that the text of field 0 asks for; a word that no operation has is a fault
 abbrev pub word_of : Option (List ℕ) → Result Operation LineFault
-word_of (Some text) = known (operation_of_word text)
-word_of None = Err Word
+word_of o = ok_or (option_and_then operation_of_word o) Word
 
 -- the operation, once the line has as many fields as it takes
 abbrev pub counted : List ℕ → Operation → Result Operation LineFault

@@ -29,8 +29,9 @@ fn operation_named(word: &[u8]) -> Option<Operation>
 fn operation_of(line: &[u8]) -> Result<Operation, LineFault>
     ensures { result ≡ operation_in line.now }
 {
-    let word = field(line, 0).ok_or(LineFault::Word)?;
-    let operation = operation_named(word.bytes).ok_or(LineFault::Word)?;
+    let operation = field(line, 0)
+        .and_then(|word| operation_named(word.bytes))
+        .ok_or(LineFault::Word)?;
     let wanted = kinds(operation).len();
     let behind = semicolons(line);
     if behind < wanted {
