@@ -50,6 +50,14 @@ fn numeral_of(text: &[u8], most: usize) -> Result<u32, usize>
     }
 }
 
+// How many thousandths the last of so many digits behind a point counts.
+fn last_place(digits: usize) -> u32
+    requires { (1 ≤ digits) × (digits ≤ 3) }
+    ensures { result ≡ 10 ^ (3 - digits) }
+{
+    10_u32.pow(3 - digits as u32)
+}
+
 // The thousandths of a value without its sign; else how far the text follows the form of one.
 fn thousandths(text: &[u8]) -> Result<u32, usize>
     ensures is { result ≡ size_of text.now }
@@ -65,7 +73,7 @@ fn thousandths(text: &[u8]) -> Result<u32, usize>
         [] => Ok(whole),
         [b'.', fraction @ ..] => {
             let parts = numeral_of(fraction, 3).map_err(|at| count + 1 + at)?;
-            Ok(whole + parts * 10_u32.pow(3 - fraction.len() as u32))
+            Ok(whole + parts * last_place(fraction.len()))
         }
         _ => Err(count),
     }
