@@ -40,5 +40,5 @@ module _ (field : ℕ) (bytes : List ℕ) where
         over = channel-over (numeral 3 bytes) refl;
       }
 
-pub channel-reads_as : (p : Place) (r : Result ℕ NumberFault) → r ≡ channel_of p → Reads Channel ChannelForm p r
-channel-reads_as p r e = subst (Reads Channel ChannelForm p) (sym e) (channel-reads p.number p.text p.begins)
+pub channel_reads_as : (p : Place) (r : Result ℕ NumberFault) → r ≡ channel_of p → Reads Channel ChannelForm p r
+channel_reads_as p r e = subst (Reads Channel ChannelForm p) (sym e) (channel-reads p.number p.text p.begins)

@@ -1,15 +1,16 @@
 -- A text is a numeral of some digits exactly when its definition says so, and how far a text follows that form.
-use Rattle.std.proofs.Common.{◌≡◌, ℕ, zero, suc, ◌+◌, ◌-◌, ◌<◌, ◌≤◌, Bool, true, false, cond, ◌&&◌, eqb, ltb, leb, List, [], ◌∷◌, ◌++◌, map, length, take, drop, Ok, Err, sym, refl, ap, ◌∙◌, subst, ⊎_elim, add-zero, suc-add, zero-add, arith}
+use Rattle.std.proofs.Common.{◌≡◌, ℕ, zero, suc, ◌+◌, ◌-◌, ◌<◌, ◌≤◌, Bool, true, false, cond, ◌&&◌, eqb, ltb, leb, List, [], ◌∷◌, ◌++◌, map, length, take, drop, Ok, Err, sym, refl, ap, ◌∙◌, subst, ⊎_elim, add-zero, zero-add, arith}
 use native.Mathlib.Nat.{sub-zero}
 use Rattle.std.specs.Int.Digits.{number_from_digits, AllBelowBase}
 use Rattle.std.proofs.lemmas.List.{append-nil, length-append, length-map, length-take-le, take_all, take-append-drop}
 use Rattle.std.proofs.lemmas.Bool.{cond-true, cond-false, cases_Bool, and_from, and_parts, le-leb, leb-true, ltb-true, eqb-true}
-use Rattle.lines.specs.Digits.{is_digit, leading, worth, numeral}
+use Rattle.std.specs.Char.{is_ascii_digit}
+use Rattle.lines.specs.Digits.{leading, worth, numeral}
 use Rattle.lines.specs.Forms.{text, Numeral, Begun, Breaks}
 use Rattle.lines.proofs.DigitLaws.{leading_length, leading-most, numeral_all}
 
 -- digits are digits
-pub digit_is : (d : ℕ) → d < 10 → is_digit (48 + d) ≡ true
+pub digit_is : (d : ℕ) → d < 10 → is_ascii_digit (48 + d) ≡ true
 digit_is d lt = and_from _ _ (le-leb 48 (48 + d) (omega arith)) (le-leb (48 + d) 57 (omega arith))
 
 -- written digits are all leading ones
@@ -17,8 +18,9 @@ pub leading-text : (most : ℕ) (ds rest : List ℕ) → AllBelowBase 10 ds → 
 leading-text most [] rest under few = ap (λ k. leading k rest) (sym (sub-zero most)) ∙ sym (zero-add _)
 leading-text zero (d ∷ ds) rest under few = absurd (omega arith)
 leading-text (suc most) (d ∷ ds) rest under few =
-    cond-true (is_digit (48 + d)) _ _ (digit_is d under.0) ∙ ap suc (leading-text most ds rest under.1 (omega arith))
-    ∙ (let less : most - length ds ≡ suc most - suc (length ds) = omega arith in ap (λ k. suc (length ds + leading k rest)) less ∙ sym (suc-add (length ds) _))
+    let less : most - length ds ≡ suc most - suc (length ds) = omega arith in
+    cond-true (is_ascii_digit (48 + d)) _ _ (digit_is d under.0) ∙ ap (λ k. 1 + k) (leading-text most ds rest under.1 (omega arith))
+    ∙ ap (λ k. 1 + (length ds + leading k rest)) less ∙ omega arith
 
 pub worth-text : (ds : List ℕ) → worth (text ds) ≡ number_from_digits 10 ds
 worth-text ds = ap (number_from_digits 10) (back ds)
@@ -35,15 +37,15 @@ front-digits (suc most) (suc k) [] le = (refl, tt)
 front-digits (suc most) (suc k) (b ∷ bs) le =
     ⊎_elim
     (λ e.
-    let more : leading (suc most) (b ∷ bs) ≡ suc (leading most bs) = cond-true (is_digit b) _ _ e in
+    let more : leading (suc most) (b ∷ bs) ≡ 1 + leading most bs = cond-true (is_ascii_digit b) _ _ e in
     let ih = front-digits most k bs (omega (arith, more)) in
     let low = leb-true 48 b (and_parts (leb 48 b) (leb b 57) e).0 in
     let high = leb-true b 57 (and_parts (leb 48 b) (leb b 57) e).1 in
     let here : b ≡ 48 + (b - 48) = omega arith in
     let rest = ih.0 in
     (cc, (omega arith, ih.1)))
-    (λ e. let none : leading (suc most) (b ∷ bs) ≡ 0 = cond-false (is_digit b) _ _ e in absurd (omega (arith, none)))
-    (cases_Bool (is_digit b))
+    (λ e. let none : leading (suc most) (b ∷ bs) ≡ 0 = cond-false (is_ascii_digit b) _ _ e in absurd (omega (arith, none)))
+    (cases_Bool (is_ascii_digit b))
 
 -- what begins with digits does so whatever follows
 pub leading_swap : (most : ℕ) (p q r : List ℕ) → length p ≤ leading most (p ++ q) → length p ≤ leading most (p ++ r)
@@ -52,12 +54,12 @@ leading_swap zero (b ∷ p) q r le = le
 leading_swap (suc most) (b ∷ p) q r le =
     ⊎_elim
     (λ e.
-    let q-more : leading (suc most) (b ∷ (p ++ q)) ≡ suc (leading most (p ++ q)) = cond-true (is_digit b) _ _ e in
-    let r-more : leading (suc most) (b ∷ (p ++ r)) ≡ suc (leading most (p ++ r)) = cond-true (is_digit b) _ _ e in
+    let q-more : leading (suc most) (b ∷ (p ++ q)) ≡ 1 + leading most (p ++ q) = cond-true (is_ascii_digit b) _ _ e in
+    let r-more : leading (suc most) (b ∷ (p ++ r)) ≡ 1 + leading most (p ++ r) = cond-true (is_ascii_digit b) _ _ e in
     let ih = leading_swap most p q r (omega (arith, q-more)) in
     omega (arith, r-more, ih))
-    (λ e. let none : leading (suc most) (b ∷ (p ++ q)) ≡ 0 = cond-false (is_digit b) _ _ e in absurd (omega (arith, none)))
-    (cases_Bool (is_digit b))
+    (λ e. let none : leading (suc most) (b ∷ (p ++ q)) ≡ 0 = cond-false (is_ascii_digit b) _ _ e in absurd (omega (arith, none)))
+    (cases_Bool (is_ascii_digit b))
 
 leading-nil : (most : ℕ) → leading most [] ≡ 0
 leading-nil zero = refl

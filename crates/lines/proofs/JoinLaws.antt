@@ -1,36 +1,24 @@
 -- The fields of a line and the line that texts make, one from the other.
-use Rattle.std.proofs.Common.{◌≡◌, ℕ, zero, suc, ◌+◌, ◌<◌, Bool, true, not, ◌&&◌, eqb, List, [], ◌∷◌, ◌++◌, length, drop, ℤ, sym, refl, ap, ◌∙◌, subst, inl, inr, arith}
+use Rattle.std.proofs.Common.{◌≡◌, ℕ, zero, suc, ◌+◌, Bool, true, not, ◌&&◌, eqb, List, [], ◌∷◌, ◌++◌, length, drop, ℤ, sym, refl, ap, ◌∙◌, subst, inl, inr, arith}
 use Rattle.std.specs.Int.Digits.{AllBelowBase}
-use Rattle.std.specs.List.{AllByRecursion}
+use Rattle.std.specs.List.{AllByRecursion, onto_first}
 use Rattle.std.proofs.lemmas.List.{append_assoc, length-append, length_push, take_at, drop_at, get_or_at, get_or_append_left}
-use Rattle.std.proofs.lemmas.Bool.{cond_both, eqb-true, eqb-false, and_parts, not-true}
+use Rattle.std.proofs.lemmas.List.Splits.{join_with_byte-slice_split}
+use Rattle.std.proofs.lemmas.Bool.{cond_both, eqb-false, and_parts, not-true}
 use Rattle.service.specs.declared.request.Operation.{Operation}
 use Rattle.service.specs.declared.request.Operation.TheVariants.{Put, Drop, Count, Push, Pop}
 use Rattle.lines.specs.Asking.{Means, Numbers}
 use Rattle.lines.specs.Fields.{semicolon, fields, joined, Parted}
 use Rattle.lines.specs.Forms.{text, Numeral, Size}
-use Rattle.lines.specs.Parts.{onto, First, Absent}
-use Rattle.lines.specs.Words.{Kind, channel, value, word}
-use Rattle.lines.proofs.PartLaws.{parts_first, parts-absent, parts-some}
+use Rattle.lines.specs.Parts.{First, Absent}
+use Rattle.lines.specs.declared.kind.Kind.{Kind}
+use Rattle.lines.specs.declared.kind.Kind.TheVariants.{Channel as channel, Value as value}
+use Rattle.lines.specs.Words.{word}
+use Rattle.lines.proofs.PartLaws.{parts_first, parts-absent}
 
 -- a line is its fields, joined
-joined-onto : (b : ℕ) (ps : List (List ℕ)) → 0 < length ps → joined (onto b ps) ≡ b ∷ joined ps
-joined-onto b [] lt = absurd (omega arith)
-joined-onto b (p ∷ []) lt = refl
-joined-onto b (p ∷ q ∷ ps) lt = refl
-
-joined-empty : (ps : List (List ℕ)) → 0 < length ps → joined ([] ∷ ps) ≡ semicolon ∷ joined ps
-joined-empty [] lt = absurd (omega arith)
-joined-empty (p ∷ ps) lt = refl
-
 pub joined-fields : (line : List ℕ) → joined (fields line) ≡ line
-joined-fields [] = refl
-joined-fields (b ∷ bs) =
-    let ih = joined-fields bs in
-    let some = parts-some semicolon bs in
-    cond_both (eqb b semicolon) _ _ (λ ps. joined ps ≡ b ∷ bs)
-    (λ e. let same : b ≡ semicolon = eqb-true b semicolon e in joined-empty (fields bs) some ∙ ap (λ l. semicolon ∷ l) ih ∙ ap (λ x. x ∷ bs) (sym same))
-    (λ e. joined-onto b (fields bs) some ∙ ap (λ l. b ∷ l) ih)
+joined-fields line = join_with_byte-slice_split semicolon line
 
 -- texts without a semicolon
 absent-nil : Absent semicolon []
@@ -40,7 +28,7 @@ absent-cons : (b : ℕ) (bs : List ℕ) → (b ≡ semicolon → ⊥) → Absent
 absent-cons b bs ne none zero lt e = ne e
 absent-cons b bs ne none (suc k) lt e = none k (omega arith) e
 
-absent-onto : (b : ℕ) (ps : List (List ℕ)) → (b ≡ semicolon → ⊥) → AllByRecursion (Absent semicolon) ps → AllByRecursion (Absent semicolon) (onto b ps)
+absent-onto : (b : ℕ) (ps : List (List ℕ)) → (b ≡ semicolon → ⊥) → AllByRecursion (Absent semicolon) ps → AllByRecursion (Absent semicolon) (onto_first b ps)
 absent-onto b [] ne all = (absent-cons b [] ne absent-nil, tt)
 absent-onto b (p ∷ ps) ne all = (absent-cons b p ne all.0, all.1)
 

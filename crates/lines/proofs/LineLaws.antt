@@ -1,7 +1,8 @@
 -- A line is read as a request exactly when it has that request's form.
 use Rattle.std.proofs.Common.{◌≡◌, ℕ, zero, suc, ◌+◌, ◌⊎◌, List, [], ◌∷◌, length, drop, ℤ, pos, Some, None, Ok, Err, Option, Result, sym, refl, ap, ◌∙◌, subst, inl, inr, ⊎_elim, arith}
-use Rattle.std.specs.Option.{option_map}
-use Rattle.lines.specs.declared.fault.LineFault.TheVariants.{Number}
+use Rattle.std.specs.Option.{ok_or, option_map}
+use Rattle.std.specs.Result.{result_map_both}
+use Rattle.lines.specs.declared.fault.LineFault.TheVariants.{Missing, Number}
 use Rattle.lines.specs.declared.fault.NumberFault.{NumberFault}
 use Rattle.lines.specs.declared.fault.NumberFault.TheVariants.{Form}
 use Rattle.lines.specs.Asking.{Means, Good, Numbers}
@@ -10,10 +11,11 @@ use Rattle.lines.specs.Forms.{Value, Breaks}
 use Rattle.lines.specs.Numbers.{channel_of, value_of}
 use Rattle.std.specs.List.{slice_get}
 use Rattle.lines.specs.Parts.{start}
-use Rattle.lines.specs.Reading.{then, raised, number_of, present, number_at, numbers_of}
-use Rattle.lines.specs.Words.{Kind, channel, value}
-use Rattle.lines.proofs.ChannelLaws.{channel-reads_as}
-use Rattle.lines.proofs.ValueLaws.{value-reads_as}
+use Rattle.lines.specs.Reading.{then, number_of, number_at, numbers_of}
+use Rattle.lines.specs.declared.kind.Kind.{Kind}
+use Rattle.lines.specs.declared.kind.Kind.TheVariants.{Channel as channel, Value as value}
+use Rattle.lines.proofs.ChannelLaws.{channel_reads_as}
+use Rattle.lines.proofs.ValueLaws.{value_reads_as}
 
 -- what was read before what
 pub then_ok : {A B E : Type 0} (r : Result A E) (go : A → Result B E) (y : B) → then r go ≡ Ok y → (x : A) × (r ≡ Ok x) × (go x ≡ Ok y)
@@ -25,11 +27,11 @@ then_err (Ok x) go d e = inr (x, refl, e)
 then_err (Err c) go d e = let same : c ≡ d = cc in inl (ap Err same)
 
 -- a number and its fault, as the line has them
-raised_ok : {A : Type 0} (f : A → ℤ) (r : Result A NumberFault) (z : ℤ) → raised f r ≡ Ok z → (x : A) × (r ≡ Ok x) × (z ≡ f x)
+raised_ok : {A : Type 0} (f : A → ℤ) (r : Result A NumberFault) (z : ℤ) → result_map_both f Number r ≡ Ok z → (x : A) × (r ≡ Ok x) × (z ≡ f x)
 raised_ok f (Ok x) z e = (x, refl, cc)
 raised_ok f (Err d) z e = absurd (grind arith)
 
-raised_err : {A : Type 0} (f : A → ℤ) (r : Result A NumberFault) (d : NumberFault) → raised f r ≡ Err (Number d) → r ≡ Err d
+raised_err : {A : Type 0} (f : A → ℤ) (r : Result A NumberFault) (d : NumberFault) → result_map_both f Number r ≡ Err (Number d) → r ≡ Err d
 raised_err f (Ok x) d e = absurd (grind arith)
 raised_err f (Err c) d e = let same : c ≡ d = cc in ap Err same
 
@@ -37,25 +39,25 @@ raised_err f (Err c) d e = let same : c ≡ d = cc in ap Err same
 number_read : (k : Kind) (p : Place) (z : ℤ) → number_of k p ≡ Ok z → Means k p.text z
 number_read channel p z e =
     let r = raised_ok pos (channel_of p) z e in
-    (r.0, (channel-reads_as p (channel_of p) refl).read r.0 r.1, r.2)
+    (r.0, (channel_reads_as p (channel_of p) refl).read r.0 r.1, r.2)
 number_read value p z e =
     let r = raised_ok (λ z. z) (value_of p) z e in
-    subst (Value p.text) (sym r.2) ((value-reads_as p (value_of p) refl).read r.0 r.1)
+    subst (Value p.text) (sym r.2) ((value_reads_as p (value_of p) refl).read r.0 r.1)
 
 number-readable : (k : Kind) (p : Place) (z : ℤ) → Means k p.text z → number_of k p ≡ Ok z
-number-readable channel p z m = ap (raised pos) ((channel-reads_as p (channel_of p) refl).readable m.0 m.1) ∙ ap Ok (sym m.2)
-number-readable value p z m = ap (raised (λ z. z)) ((value-reads_as p (value_of p) refl).readable z m)
+number-readable channel p z m = ap (result_map_both pos Number) ((channel_reads_as p (channel_of p) refl).readable m.0 m.1) ∙ ap Ok (sym m.2)
+number-readable value p z m = ap (result_map_both (λ z. z) Number) ((value_reads_as p (value_of p) refl).readable z m)
 
 number-offset : (k : Kind) (p : Place) (field at : ℕ) → number_of k p ≡ Err (Number (Form field at)) → (field ≡ p.number) × Breaks (Good k) p.text at
-number-offset channel p field at e = (channel-reads_as p (channel_of p) refl).offset field at (raised_err pos (channel_of p) (Form field at) e)
-number-offset value p field at e = (value-reads_as p (value_of p) refl).offset field at (raised_err (λ z. z) (value_of p) (Form field at) e)
+number-offset channel p field at e = (channel_reads_as p (channel_of p) refl).offset field at (raised_err pos (channel_of p) (Form field at) e)
+number-offset value p field at e = (value_reads_as p (value_of p) refl).offset field at (raised_err (λ z. z) (value_of p) (Form field at) e)
 
 -- a field's number, where the field is there
 module _ (k : Kind) (line : List ℕ) (n : ℕ) where
   abbrev placed : List ℕ → Place
   placed t = record { number = n; begins = start (fields line) n; text = t }
 
-  field_ok : (o : Option (List ℕ)) → slice_get (fields line) n ≡ o → (z : ℤ) → present k n (option_map placed o) ≡ Ok z → (t : List ℕ) × (slice_get (fields line) n ≡ Some t) × Means k t z
+  field_ok : (o : Option (List ℕ)) → slice_get (fields line) n ≡ o → (z : ℤ) → then (ok_or (option_map placed o) (Missing n)) (number_of k) ≡ Ok z → (t : List ℕ) × (slice_get (fields line) n ≡ Some t) × Means k t z
   field_ok (Some t) here z e = (t, here, number_read k (placed t) z e)
   field_ok None here z e = absurd (grind arith)
 
@@ -63,9 +65,9 @@ module _ (k : Kind) (line : List ℕ) (n : ℕ) where
   field_read = field_ok (slice_get (fields line) n) refl
 
   pub field_readable : (t : List ℕ) (z : ℤ) → slice_get (fields line) n ≡ Some t → Means k t z → number_at k line n ≡ Ok z
-  field_readable t z here m = ap (λ o. present k n (option_map placed o)) here ∙ number-readable k (placed t) z m
+  field_readable t z here m = ap (λ o. then (ok_or (option_map placed o) (Missing n)) (number_of k)) here ∙ number-readable k (placed t) z m
 
-  field_err : (o : Option (List ℕ)) → slice_get (fields line) n ≡ o → (field at : ℕ) → present k n (option_map placed o) ≡ Err (Number (Form field at))
+  field_err : (o : Option (List ℕ)) → slice_get (fields line) n ≡ o → (field at : ℕ) → then (ok_or (option_map placed o) (Missing n)) (number_of k) ≡ Err (Number (Form field at))
       → (t : List ℕ) × (field ≡ n) × (slice_get (fields line) n ≡ Some t) × Breaks (Good k) t at
   field_err (Some t) here field at e = let h = number-offset k (placed t) field at e in (t, h.0, here, h.1)
   field_err None here field at e = absurd (grind arith)

@@ -1,33 +1,28 @@
 -- Laws of a text cut at marks.
-use Rattle.std.proofs.Common.{◌≡◌, ℕ, zero, suc, ◌+◌, ◌-◌, ◌<◌, ◌≤◌, eqb, List, [], ◌∷◌, ◌++◌, length, take, drop, Some, None, Option, sym, refl, ap, ◌∙◌, add-zero, add_assoc, add-one, arith, Bor}
-use Rattle.std.proofs.lemmas.List.{take_all, take_at, take-append-drop, drop_more, drop_at, drop-drop, append_assoc, length-append, length-drop, length_push}
-use Rattle.std.proofs.lemmas.Bool.{cond-true, cond-false, cond_both, eq-eqb, ne_eqb}
-use Rattle.std.specs.List.{slice_get}
-use Rattle.lines.specs.Parts.{parts, onto, start, beside, rejoined, First, Absent}
+use Rattle.std.proofs.Common.{◌≡◌, ℕ, zero, suc, ◌+◌, ◌-◌, ◌<◌, ◌≤◌, eqb, List, [], ◌∷◌, ◌++◌, length, take, drop, Some, None, Option, sym, refl, ap, ◌∙◌, add-zero, add_assoc, arith, Bor}
+use Rattle.std.proofs.lemmas.List.{take_all, take_at, drop_at, drop-drop, append_assoc, length-append, length-drop, length_push}
+use Rattle.std.proofs.lemmas.List.Splits.{slice_split-cons_yes, slice_split-cons_no, length-slice_split}
+use Rattle.std.proofs.lemmas.Bool.{eq-eqb, ne_eqb}
+use Rattle.std.specs.List.{slice_get, onto_first}
+use Rattle.lines.specs.Parts.{parts, start, beside, rejoined, First, Absent}
 
 -- with a first mark, the text before it is the first part, and the others are those of the text behind it
 pub parts_first : (mark : ℕ) (text : List ℕ) (at : ℕ) → First mark text at → parts mark text ≡ take at text ∷ parts mark (drop (at + 1) text)
 parts_first mark [] at f = absurd (omega (arith, f.within))
-parts_first mark (b ∷ bs) zero f = cond-true (eqb b mark) _ _ (eq-eqb b mark f.here)
+parts_first mark (b ∷ bs) zero f = slice_split-cons_yes (λ x. eqb x mark) b bs (eq-eqb b mark f.here)
 parts_first mark (b ∷ bs) (suc n) f =
     let rest : First mark bs n = record { within = omega (arith, f.within); here = f.here; before = λ k lt. f.before (suc k) (omega arith) } in
     let next : suc (n + 1) ≡ suc n + 1 = omega arith in
-    cond-false (eqb b mark) _ _ (ne_eqb b mark (f.before 0 (omega arith)))
-    ∙ ap (onto b) (parts_first mark bs n rest)
+    slice_split-cons_no (λ x. eqb x mark) b bs (ne_eqb b mark (f.before 0 (omega arith)))
+    ∙ ap (onto_first b) (parts_first mark bs n rest)
     ∙ ap (λ k. (b ∷ take n bs) ∷ parts mark (drop k (b ∷ bs))) next
 
 -- with no mark, the whole text is the one part
 pub parts-absent : (mark : ℕ) (text : List ℕ) → Absent mark text → parts mark text ≡ text ∷ []
 parts-absent mark [] none = refl
 parts-absent mark (b ∷ bs) none =
-    cond-false (eqb b mark) _ _ (ne_eqb b mark (none 0 (omega arith)))
-    ∙ ap (onto b) (parts-absent mark bs (λ k lt. none (suc k) (omega arith)))
-
--- the text is what stands before the first mark, the mark, and what stands behind it
-pub first-whole : (mark : ℕ) (text : List ℕ) (at : ℕ) → First mark text at → text ≡ take at text ++ (mark ∷ drop (at + 1) text)
-first-whole mark text at f =
-    sym (take-append-drop at text)
-    ∙ ap (λ l. take at text ++ l) (drop_more text at 0 f.within ∙ ap (λ b. b ∷ drop (at + 1) text) f.here)
+    slice_split-cons_no (λ x. eqb x mark) b bs (ne_eqb b mark (none 0 (omega arith)))
+    ∙ ap (onto_first b) (parts-absent mark bs (λ k lt. none (suc k) (omega arith)))
 
 -- after some parts and their marks, the rest of a text has the other parts
 pub record Passed (mark : ℕ) (text rest : List ℕ) (at count : ℕ) : Type 0 where
@@ -78,21 +73,4 @@ passed_start mark text rest at count h = ap (start (parts mark text)) (sym (add-
 
 -- a text has at least one part
 pub parts-some : (mark : ℕ) (text : List ℕ) → 0 < length (parts mark text)
-parts-some mark [] = omega arith
-parts-some mark (b ∷ bs) = cond_both (eqb b mark) _ _ (λ l. 0 < length l) (λ e. omega arith) (λ e. onto-some b (parts mark bs))
-  where
-    onto-some : (b : ℕ) (ps : List (List ℕ)) → 0 < length (onto b ps)
-    onto-some b [] = omega arith
-    onto-some b (p ∷ ps) = omega arith
-
-length-onto : (b : ℕ) (ps : List (List ℕ)) → 0 < length ps → length (onto b ps) ≡ length ps
-length-onto b [] lt = absurd (omega arith)
-length-onto b (p ∷ ps) lt = refl
-
--- each mark gives one part more
-pub length-parts_mark : (mark : ℕ) (b : ℕ) (bs : List ℕ) → b ≡ mark → length (parts mark (b ∷ bs)) ≡ length (parts mark bs) + 1
-length-parts_mark mark b bs e = ap length (cond-true (eqb b mark) _ _ (eq-eqb b mark e)) ∙ sym (add-one _)
-
-pub length-parts_other : (mark : ℕ) (b : ℕ) (bs : List ℕ) → (b ≡ mark → ⊥) → length (parts mark (b ∷ bs)) ≡ length (parts mark bs)
-length-parts_other mark b bs ne =
-    ap length (cond-false (eqb b mark) _ _ (ne_eqb b mark ne)) ∙ length-onto b (parts mark bs) (parts-some mark bs)
+parts-some mark text = omega (arith, length-slice_split (λ b. eqb b mark) text)

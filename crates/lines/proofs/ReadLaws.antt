@@ -4,20 +4,21 @@ use Rattle.std.proofs.lemmas.Bool.{cond-false, ltb-false, le-ltb}
 use Rattle.service.specs.declared.request.Operation.{Operation}
 use Rattle.service.specs.declared.request.Request.{Request}
 use Rattle.lines.specs.declared.fault.LineFault.{LineFault}
-use Rattle.lines.specs.declared.fault.LineFault.TheVariants.{Number}
+use Rattle.lines.specs.declared.fault.LineFault.TheVariants.{Word, Number}
 use Rattle.lines.specs.declared.fault.NumberFault.{NumberFault}
 use Rattle.lines.specs.declared.fault.NumberFault.TheVariants.{Form}
 use Rattle.lines.specs.Asking.{Asks, Broken, ReadExactly}
 use Rattle.lines.specs.Fields.{fields, joined}
 use Rattle.std.specs.List.{slice_get}
-use Rattle.lines.specs.Reading.{then, numbers_of, known, word_of, counted, operation_in, request, asked, read_of}
+use Rattle.std.specs.Option.{ok_or, option_and_then}
+use Rattle.lines.specs.Reading.{then, numbers_of, word_of, counted, operation_in, request, asked, read_of}
 use Rattle.lines.specs.Words.{kinds, word, operation_of_word}
 use Rattle.lines.proofs.JoinLaws.{joined-fields, fields-joined, absent-word, absent-numbers}
 use Rattle.lines.proofs.LineLaws.{then_ok, then_err, numbers-read, numbers-readable, numbers-offset}
 use Rattle.lines.proofs.WordLaws.{word-operation, operation-word}
 
 -- a known word
-known_ok : (text : List ℕ) (o : Option Operation) → operation_of_word text ≡ o → (op : Operation) → known o ≡ Ok op → text ≡ word op
+known_ok : (text : List ℕ) (o : Option Operation) → operation_of_word text ≡ o → (op : Operation) → ok_or o Word ≡ Ok op → text ≡ word op
 known_ok text (Some found) e op h = let same : found ≡ op = cc in operation-word text op (e ∙ ap Some same)
 known_ok text None e op h = absurd (grind arith)
 
@@ -26,13 +27,12 @@ word_ok (Some text) op e = ap Some (known_ok text (operation_of_word text) refl 
 word_ok None op e = absurd (grind arith)
 
 -- neither the word nor the number of fields is a number's fault
-known_err : (o : Option Operation) (d : NumberFault) → known o ≡ Err (Number d) → ⊥
-known_err (Some op) d e = grind arith
-known_err None d e = grind arith
-
 word_err : (o : Option (List ℕ)) (d : NumberFault) → word_of o ≡ Err (Number d) → ⊥
-word_err (Some text) d e = known_err (operation_of_word text) d e
-word_err None d e = grind arith
+word_err o d e = go (option_and_then operation_of_word o) e
+  where
+    go : (o : Option Operation) → ok_or o Word ≡ Err (Number d) → ⊥
+    go (Some op) e = grind arith
+    go None e = grind arith
 
 -- which way two tests went
 both_kept : {A E : Type 0} (s t : Bool) (a b : E) (x y : A) → cond s (Err a) (cond t (Err b) (Ok x)) ≡ Ok y → (s ≡ false) × (t ≡ false) × (x ≡ y)
@@ -103,7 +103,7 @@ asks_read line q a =
     let read = numbers-readable (kinds op) 1 line a.texts a.numbers a.meant (ap (drop 1) whole) in
     let long : length (fields line) ≡ length (kinds op) + 1 = ap length whole ∙ omega (arith, read.1) in
     ap (λ fs. then (then (word_of (slice_get fs 0)) (counted line)) (asked line)) whole
-    ∙ ap (λ o. then (then (known o) (counted line)) (asked line)) (word-operation op)
+    ∙ ap (λ o. then (then (ok_or o Word) (counted line)) (asked line)) (word-operation op)
     ∙ ap (λ r. then r (asked line)) (counted_same line op long)
     ∙ ap (λ r. then r (λ zs. Ok (request op zs))) read.0
     ∙ ap Ok (sym a.taken)

@@ -1,13 +1,13 @@
 -- A value without its sign is read exactly when it has that form, and how far a text follows it.
 use Rattle.std.proofs.Common.{◌≡◌, ℕ, zero, suc, ◌+◌, ◌-◌, ◌*◌, ◌^◌, ◌≤◌, true, false, cond, eqb, List, [], ◌∷◌, ◌++◌, length, take, drop, Ok, Err, Result, sym, refl, ap, ◌∙◌, subst, inl, inr, ⊎_elim, add-zero, arith}
-use Rattle.std.proofs.lemmas.List.{append-nil, length-drop, take_all, take_at, drop_at, take_rest, take-append-drop}
+use Rattle.std.proofs.lemmas.List.{append-nil, length-drop, take_all, take_at, drop_at, take-append-drop}
 use Rattle.std.proofs.lemmas.Bool.{cond-true, cond-false, cases_Bool, eqb-true, eqb-false}
 use Rattle.lines.specs.Digits.{leading, worth, numeral}
 use Rattle.lines.specs.Forms.{Numeral, Size}
 use Rattle.lines.specs.Numbers.{behind, pointed, size_of}
 use Rattle.lines.proofs.FormLaws.{front-form, numeral-form, form-numeral, numeral-leading, numeral-whole, numeral-worth, numeral-length}
 use Rattle.lines.proofs.ChannelLaws.{numeral_err}
-use Rattle.lines.proofs.NumberLaws.{from, size-behind, behind-empty}
+use Rattle.lines.proofs.NumberLaws.{size-behind, behind-empty}
 
 abbrev pub SizeForm : List ℕ → Type 0
 SizeForm bytes = (n : ℕ) × Size bytes n
@@ -28,14 +28,14 @@ form-size bytes n (inl w) =
     let all = take_all (length bytes) bytes (omega arith) in
     size-behind bytes (length bytes) w.units (sym (numeral-whole 6 bytes w.units f)) (sym (ap worth all ∙ numeral-worth 6 bytes w.units f))
     (λ e. absurd (omega (arith, e, numeral-length 6 bytes w.units f, f.some)))
-    ∙ behind-empty w.units (length bytes) (from (length bytes) bytes) (ap length (take_rest bytes (length bytes)) ∙ length-drop (length bytes) bytes ∙ omega arith)
+    ∙ behind-empty w.units (length bytes) (drop (length bytes) bytes) (length-drop (length bytes) bytes ∙ omega arith)
     ∙ ap Ok (sym w.worth)
 form-size bytes n (inr p) =
     let k = length p.front in
     let f = p.whole in
     let lead : k ≡ leading 6 bytes = sym (ap (leading 6) p.written ∙ whole-leading p.front p.units p.back f) in
     let front : take k bytes ≡ p.front = ap (take k) p.written ∙ take_at p.front (46 ∷ p.back) k refl in
-    let rest : from k bytes ≡ 46 ∷ p.back = take_rest bytes k ∙ ap (drop k) p.written ∙ drop_at p.front (46 ∷ p.back) k refl in
+    let rest : drop k bytes ≡ 46 ∷ p.back = ap (drop k) p.written ∙ drop_at p.front (46 ∷ p.back) k refl in
     size-behind bytes k p.units lead (sym (ap worth front ∙ numeral-worth 6 p.front p.units f))
     (λ e. absurd (omega (arith, e, numeral-length 6 p.front p.units f, f.some)))
     ∙ ap (behind p.units k) rest

@@ -112,5 +112,5 @@ value-reads field begins (b ∷ bs) =
     subst (Reads Value ValueForm (record { number = field; begins = begins; text = b ∷ bs })) (sym (cond-false (eqb b 45) _ _ t)) (plus-reads field (b ∷ bs) u begins))
     (cases_Bool (eqb b 45))
 
-pub value-reads_as : (p : Place) (r : Result ℤ NumberFault) → r ≡ value_of p → Reads Value ValueForm p r
-value-reads_as p r e = subst (Reads Value ValueForm p) (sym e) (value-reads p.number p.begins p.text)
+pub value_reads_as : (p : Place) (r : Result ℤ NumberFault) → r ≡ value_of p → Reads Value ValueForm p r
+value_reads_as p r e = subst (Reads Value ValueForm p) (sym e) (value-reads p.number p.begins p.text)

@@ -10,7 +10,9 @@ use Rattle.lines.specs.Fields.{fields, joined}
 use Rattle.lines.specs.Forms.{Channel, Value, ChannelForm, ValueForm, Breaks}
 use Rattle.std.specs.List.{slice_get}
 use Rattle.lines.specs.Reading.{request}
-use Rattle.lines.specs.Words.{Kind, channel, value, kinds, word}
+use Rattle.lines.specs.declared.kind.Kind.{Kind}
+use Rattle.lines.specs.declared.kind.Kind.TheVariants.{Channel as channel, Value as value}
+use Rattle.lines.specs.Words.{kinds, word}
 
 -- a text of a kind means a number
 abbrev pub Means : Kind → List ℕ → ℤ → Type 0

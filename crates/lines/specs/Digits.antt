@@ -1,20 +1,12 @@
 -- Decimal digits at the beginning of a text, and the number that they write.
-use Rattle.std.specs.Prelude.{ℕ, zero, suc, ◌-◌, Bool, cond, ◌&&◌, List, [], ◌∷◌, map, length, Some, None, Ok, Err, Option, Result, ◌==◌, nat_le, nat_lt}
+use Rattle.std.specs.Prelude.{ℕ, ◌-◌, cond, ◌&&◌, List, map, length, take, Ok, Err, Result, ◌==◌, nat_lt}
+use Rattle.std.specs.Char.{is_ascii_digit}
 use Rattle.std.specs.Int.Digits.{number_from_digits}
-
--- whether a byte is one of the digits 0 to 9
-abbrev pub is_digit : ℕ → Bool
-is_digit b = nat_le 48 b && nat_le b 57
-
--- the digit that a byte writes, or none
-abbrev pub digit_of : ℕ → Option ℕ
-digit_of b = cond (is_digit b) (Some (b - 48)) None
+use Rattle.std.specs.List.{prefix_len}
 
 -- how many digits a text begins with, counted no further than a limit
 abbrev pub leading : ℕ → List ℕ → ℕ
-leading zero text = 0
-leading (suc most) [] = 0
-leading (suc most) (b ∷ bs) = cond (is_digit b) (suc (leading most bs)) 0
+leading most text = prefix_len is_ascii_digit (take most text)
 
 -- the number that digits write, the first counting most
 abbrev pub worth : List ℕ → ℕ

@@ -1,7 +1,7 @@
 -- The fields of a line, each with its place.
-use Rattle.std.specs.Prelude.{◌≡◌, ℕ, List, [], ◌∷◌, ◌++◌, Option}
+use Rattle.std.specs.Prelude.{◌≡◌, ℕ, List, Option}
 use Rattle.std.specs.Option.{option_map}
-use Rattle.std.specs.List.{AllByRecursion, slice_get}
+use Rattle.std.specs.List.{AllByRecursion, join_with_byte, slice_get}
 use Rattle.lines.specs.declared.part.Field.{Field}
 use Rattle.lines.specs.Parts.{parts, start, Absent}
 
@@ -15,9 +15,7 @@ fields line = parts semicolon line
 
 -- texts with a semicolon between each two
 abbrev pub joined : List (List ℕ) → List ℕ
-joined [] = []
-joined (t ∷ []) = t
-joined (t ∷ u ∷ ts) = t ++ (semicolon ∷ joined (u ∷ ts))
+joined texts = join_with_byte semicolon texts
 
 -- the fields of a line hold no semicolon, and joined they are the line
 pub record Parted (line : List ℕ) (texts : List (List ℕ)) : Type 0 where

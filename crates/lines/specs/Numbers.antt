@@ -1,5 +1,6 @@
 -- What the reader answers at a channel and at a value: the number, or the place at which the form breaks.
 use Rattle.std.specs.Prelude.{ℕ, ◌+◌, ◌-◌, ◌*◌, ◌^◌, cond, List, [], ◌∷◌, length, take, drop, ℤ, pos, neg_ℤ, Ok, Err, Result, ◌==◌, nat_le}
+use Rattle.std.specs.Result.{result_map_both}
 use Rattle.lines.specs.declared.fault.NumberFault.{NumberFault}
 use Rattle.lines.specs.declared.fault.NumberFault.TheVariants.{Form, Limit}
 use Rattle.lines.specs.Digits.{leading, worth, numeral}
@@ -16,8 +17,7 @@ channel_of p = limited p.number (numeral 3 p.text)
 
 -- thousandths of a whole part w with a fraction of so many digits behind a point at the place `at`
 abbrev pub pointed : ℕ → ℕ → ℕ → Result ℕ ℕ → Result ℕ ℕ
-pointed w at digits (Ok n) = Ok (w * 1000 + n * 10 ^ (3 - digits))
-pointed w at digits (Err more) = Err (at + 1 + more)
+pointed w at digits r = result_map_both (λ n. w * 1000 + n * 10 ^ (3 - digits)) (λ more. at + 1 + more) r
 
 -- thousandths of a whole part w that ends at the place `at`, with what follows it
 abbrev pub behind : ℕ → ℕ → List ℕ → Result ℕ ℕ
@@ -30,13 +30,11 @@ size_of text = cond (leading 6 text == 0) (Err 0) (behind (worth (take (leading 
 
 -- a size without a sign is the number itself
 abbrev pub plus : ℕ → Result ℕ ℕ → Result ℤ NumberFault
-plus field (Ok n) = Ok (pos n)
-plus field (Err at) = Err (Form field at)
+plus field r = result_map_both pos (Form field) r
 
 -- a size behind a minus is its negative, and its offsets count the minus
 abbrev pub minus : ℕ → Result ℕ ℕ → Result ℤ NumberFault
-minus field (Ok n) = Ok (neg_ℤ (pos n))
-minus field (Err at) = Err (Form field (at + 1))
+minus field r = result_map_both (λ n. neg_ℤ (pos n)) (λ at. Form field (at + 1)) r
 
 -- the sign, if there is one, covers the whole number
 abbrev pub signed_of : ℕ → List ℕ → Result ℤ NumberFault

@@ -1,16 +1,12 @@
 -- A text cut at marks: a line at its semicolons, an input at its line feeds.
-use Rattle.std.specs.Prelude.{◌≡◌, ℕ, zero, suc, ◌+◌, ◌<◌, cond, List, [], ◌∷◌, ◌++◌, length, Some, None, Option, ◌==◌, ◌≢◌, slice_index, slice_index_or}
+use Rattle.std.specs.Prelude.{◌≡◌, ℕ, zero, suc, ◌+◌, ◌<◌, List, [], ◌∷◌, ◌++◌, length, Some, None, Option, ◌==◌, ◌≢◌, slice_index, slice_index_or}
 use Rattle.std.specs.Borrow.{Bor}
-
--- a byte in front of the first part
-abbrev pub onto : ℕ → List (List ℕ) → List (List ℕ)
-onto b [] = (b ∷ []) ∷ []
-onto b (p ∷ ps) = (b ∷ p) ∷ ps
+use Rattle.std.specs.List.{slice_split}
+use Rattle.std.specs.Str.Iter.{LacksByte}
 
 -- the parts of a text between its marks: at least one, and any of them may be empty
 abbrev pub parts : ℕ → List ℕ → List (List ℕ)
-parts mark [] = [] ∷ []
-parts mark (b ∷ bs) = cond (b == mark) ([] ∷ parts mark bs) (onto b (parts mark bs))
+parts mark text = slice_split (λ b. b == mark) text
 
 -- the place in the text at which a part begins: behind each earlier part and its mark
 abbrev pub start : List (List ℕ) → ℕ → ℕ
@@ -26,7 +22,7 @@ pub record First (mark : ℕ) (text : List ℕ) (at : ℕ) : Type 0 where
 
 -- the mark stands nowhere in the text
 abbrev pub Absent : ℕ → List ℕ → Type 0
-Absent mark text = (k : ℕ) → k < length text → slice_index text k ≢ mark
+Absent mark text = LacksByte mark text
 
 -- the first part, and the parts of what follows its mark, if there is one
 abbrev pub beside : ℕ → List ℕ → Option (Bor (List ℕ)) → List (List ℕ)

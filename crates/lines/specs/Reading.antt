@@ -1,48 +1,35 @@
 -- What the reader answers at every line: the word first, then the number of fields, then the fields from the left.
-use Rattle.std.specs.Prelude.{ℕ, ◌+◌, cond, List, [], ◌∷◌, length, ℤ, pos, Some, None, Ok, Err, Option, Result, nat_lt, slice_index_or}
+use Rattle.std.specs.Prelude.{ℕ, ◌+◌, cond, List, [], ◌∷◌, length, ℤ, pos, Ok, Err, Option, Result, nat_lt, slice_index_or}
 use Rattle.service.specs.declared.request.Operation.{Operation}
 use Rattle.service.specs.declared.request.Request.{Request}
 use Rattle.lines.specs.declared.fault.LineFault.{LineFault}
 use Rattle.lines.specs.declared.fault.LineFault.TheVariants.{Word, Missing, Surplus, Number}
-use Rattle.lines.specs.declared.fault.NumberFault.{NumberFault}
 use Rattle.lines.specs.Fields.{Place, fields, field_of}
 use Rattle.lines.specs.Numbers.{channel_of, value_of}
 use Rattle.std.specs.List.{slice_get}
-use Rattle.lines.specs.Words.{Kind, channel, value, kinds, operation_of_word}
+use Rattle.std.specs.Option.{ok_or, option_and_then}
+use Rattle.std.specs.Result.{result_map_both}
+use Rattle.lines.specs.declared.kind.Kind.{Kind}
+use Rattle.lines.specs.declared.kind.Kind.TheVariants.{Channel as channel, Value as value}
+use Rattle.lines.specs.Words.{kinds, operation_of_word}
 
 -- go on with what was read, or keep the fault
 abbrev pub then : {A B E : Type 0} → Result A E → (A → Result B E) → Result B E
 then (Ok x) go = go x
 then (Err e) go = Err e
 
--- a number, or its fault as a fault of the line
-abbrev pub raised : {A : Type 0} → (A → ℤ) → Result A NumberFault → Result ℤ LineFault
-raised f (Ok n) = Ok (f n)
-raised f (Err e) = Err (Number e)
-
--- the number that a field of a kind writes
+-- the number that a field of a kind writes, its fault as a fault of the line
 abbrev pub number_of : Kind → Place → Result ℤ LineFault
-number_of channel p = raised pos (channel_of p)
-number_of value p = raised (λ z. z) (value_of p)
+number_of channel p = result_map_both pos Number (channel_of p)
+number_of value p = result_map_both (λ z. z) Number (value_of p)
 
--- a field that is there is read, and one that is not is missing
-abbrev pub present : Kind → ℕ → Option Place → Result ℤ LineFault
-present k n (Some p) = number_of k p
-present k n None = Err (Missing n)
-
--- the number in a line's field
+-- the number in a line's field: one that is there is read, and one that is not is missing
 abbrev pub number_at : Kind → List ℕ → ℕ → Result ℤ LineFault
-number_at k line n = present k n (field_of line n)
+number_at k line n = then (ok_or (field_of line n) (Missing n)) (number_of k)
 
--- a word that no operation has is a fault
-abbrev pub known : Option Operation → Result Operation LineFault
-known (Some op) = Ok op
-known None = Err Word
-
--- the operation that the text of field 0 asks for
+-- the operation that the text of field 0 asks for; a word that no operation has is a fault
 abbrev pub word_of : Option (List ℕ) → Result Operation LineFault
-word_of (Some text) = known (operation_of_word text)
-word_of None = Err Word
+word_of o = ok_or (option_and_then operation_of_word o) Word
 
 -- the operation, once the line has as many fields as it takes
 abbrev pub counted : List ℕ → Operation → Result Operation LineFault

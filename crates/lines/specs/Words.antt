@@ -3,6 +3,8 @@ use Rattle.std.specs.Prelude.{ℕ, cond, List, [], ◌∷◌, Some, None, codes,
 use Rattle.std.specs.Str.{bytes_eq}
 use Rattle.service.specs.declared.request.Operation.{Operation}
 use Rattle.service.specs.declared.request.Operation.TheVariants.{Put, Drop, Count, Push, Pop}
+use Rattle.lines.specs.declared.kind.Kind.{Kind}
+use Rattle.lines.specs.declared.kind.Kind.TheVariants.{Channel, Value}
 
 -- the word that asks for an operation
 abbrev pub word : Operation → List ℕ
@@ -12,17 +14,12 @@ word Count = codes "count"
 word Push = codes "push"
 word Pop = codes "pop"
 
--- what a field holds
-pub data Kind : Type 0 where
-  channel : Kind
-  value : Kind
-
 -- the fields behind an operation's word
 abbrev pub kinds : Operation → List Kind
-kinds Put = channel ∷ value ∷ []
-kinds Drop = channel ∷ value ∷ []
-kinds Count = value ∷ value ∷ []
-kinds Push = value ∷ []
+kinds Put = Channel ∷ Value ∷ []
+kinds Drop = Channel ∷ Value ∷ []
+kinds Count = Value ∷ Value ∷ []
+kinds Push = Value ∷ []
 kinds Pop = []
 
 -- the operation that a word asks for, or none

@@ -31,11 +31,5 @@ pub fn field(line: &[u8], number: usize) -> Option<Field<'_>>
 pub(crate) fn semicolons(line: &[u8]) -> usize
     ensures { result + 1 ≡ length (fields line.now) }
 {
-    let mut count = 0;
-    for byte in line {
-        if *byte == b';' {
-            count += 1;
-        }
-    }
-    count
+    line.iter().filter(|byte| **byte == b';').count()
 }

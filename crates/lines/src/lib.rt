@@ -6,6 +6,7 @@
 
 mod fault;
 mod fields;
+mod kind;
 mod marks;
 mod numbers;
 mod part;

@@ -6,12 +6,7 @@ ghost use Rattle.lines.specs.Parts.{parts, beside, rejoined, First, Absent};
 fn place(text: &[u8], mark: u8) -> Option<usize>
     ensures { MatchOption result (Absent mark text.now) (λ at. First mark text.now at) }
 {
-    for (at, byte) in text.iter().enumerate() {
-        if *byte == mark {
-            return Some(at);
-        }
-    }
-    None
+    text.iter().position(|byte| *byte == mark)
 }
 
 // The text before the first mark, and the text behind it where there is a mark.
@@ -21,7 +16,7 @@ pub fn cut(text: &[u8], mark: u8) -> (&[u8], Option<&[u8]>)
     ensures long { MatchOption result.1 (length result.0.now ≡ length text.now) (λ rest. length result.0.now + 1 + length rest.now ≡ length text.now) }
 {
     match place(text, mark) {
-        Some(at) => (&text[0..at], Some(&text[at + 1..])),
+        Some(at) => (&text[..at], Some(&text[at + 1..])),
         None => (text, None),
     }
 }

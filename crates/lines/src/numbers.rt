@@ -1,64 +1,52 @@
 // Channels and values: the numbers in a line's fields.
-ghost use Rattle.std.specs.Prelude.{◌≡◌, ◌+◌, ◌-◌, ◌*◌, ◌^◌, ◌<◌, ◌≤◌, length, take, IfOk, MatchResult};
-ghost use Rattle.lines.specs.Digits.{digit_of, leading, worth, numeral};
+ghost use Rattle.std.specs.Prelude.{◌≡◌, ◌+◌, ◌-◌, ◌*◌, ◌^◌, ◌<◌, ◌≤◌, length, take, MatchResult};
+ghost use Rattle.std.specs.Char.{is_ascii_digit};
+ghost use Rattle.std.specs.List.{prefix_len};
+ghost use Rattle.lines.specs.declared.fault.NumberFault.TheVariants.{Form};
+ghost use Rattle.lines.specs.Digits.{leading, worth, numeral};
 ghost use Rattle.lines.specs.Fields.{shown};
 ghost use Rattle.lines.specs.Forms.{Channel, ChannelForm, Value, ValueForm, Reads};
-ghost use Rattle.lines.specs.Numbers.{limited, channel_of, size_of, plus, minus, signed_of, value_of};
+ghost use Rattle.lines.specs.Numbers.{channel_of, size_of, value_of};
 
 use crate::fault::NumberFault;
 use crate::part::Field;
 
-// The digits that a text begins with: how many, and the number that they write.
-#[derive(Clone, Copy)]
-struct DigitRun {
-    count: usize,
-    value: u32,
-}
-
-fn digit(byte: u8) -> Option<u32>
-    ensures { result ≡ digit_of byte }
+// How many digits a text begins with, counted no further than `most`.
+fn leading_digits(text: &[u8], most: usize) -> usize
+    ensures { result ≡ leading most text.now }
 {
-    match byte {
-        b'0'..=b'9' => Some((byte - b'0') as u32),
-        _ => None,
-    }
+    text.iter()
+        .take(most)
+        .take_while(|byte| byte.is_ascii_digit())
+        .count()
 }
 
-// The digits that a text begins with, no more than `most` of them.
-fn leading_digits(text: &[u8], most: usize) -> DigitRun
-    requires { most ≤ 6 }
-    ensures count { result.count ≡ leading most text.now }
-    ensures value { result.value ≡ worth (take result.count text.now) }
-    ensures within { result.count ≤ length text.now }
-    ensures small { result.value < 10 ^ result.count }
+// The number that up to six digits write.
+fn written(digits: &[u8]) -> u32
+    requires few { length digits.now ≤ 6 }
+    requires each { prefix_len is_ascii_digit digits.now ≡ length digits.now }
+    ensures value { result ≡ worth digits.now }
+    ensures small { result < 10 ^ length digits.now }
 {
     let mut value = 0;
-    for (at, byte) in text.iter().enumerate() {
-        if at == most {
-            return DigitRun { count: at, value };
-        }
-        let Some(digit) = digit(*byte) else {
-            return DigitRun { count: at, value };
-        };
-        value = value * 10 + digit;
+    for byte in digits {
+        value = value * 10 + u32::from(*byte - b'0');
     }
-    DigitRun {
-        count: text.len(),
-        value,
-    }
+    value
 }
 
-// A text of 1 to `most` digits; else how far the text follows that form.
+// A text of 1 to `most` digits; else how far the text follows that form. Such an error is a place in the text, which
+// callers move on by what stands before it.
 fn numeral_of(text: &[u8], most: usize) -> Result<u32, usize>
     requires { most ≤ 6 }
     ensures is { result ≡ numeral most text.now }
     ensures ok { MatchResult result (λ n. (n < 10 ^ length text.now) × (1 ≤ length text.now) × (length text.now ≤ most)) (λ at. at ≤ length text.now) }
 {
-    let run = leading_digits(text, most);
-    if run.count > 0 && run.count == text.len() {
-        Ok(run.value)
+    let count = leading_digits(text, most);
+    if count > 0 && count == text.len() {
+        Ok(written(text))
     } else {
-        Err(run.count)
+        Err(count)
     }
 }
 
@@ -67,11 +55,7 @@ fn last_place(digits: usize) -> u32
     requires { (1 ≤ digits) × (digits ≤ 3) }
     ensures { result ≡ 10 ^ (3 - digits) }
 {
-    match digits {
-        1 => 100,
-        2 => 10,
-        _ => 1,
-    }
+    10_u32.pow(3 - digits as u32)
 }
 
 // The thousandths of a value without its sign; else how far the text follows the form of one.
@@ -79,62 +63,19 @@ fn thousandths(text: &[u8]) -> Result<u32, usize>
     ensures is { result ≡ size_of text.now }
     ensures small { MatchResult result (λ n. n < 1_000_000_000) (λ at. at ≤ length text.now) }
 {
-    let DigitRun { count, value } = leading_digits(text, 6);
+    let count = leading_digits(text, 6);
     if count == 0 {
         return Err(0);
     }
-    match &text[count..] {
-        [] => Ok(value * 1000),
-        [b'.', fraction @ ..] => match numeral_of(fraction, 3) {
-            Ok(parts) => Ok(value * 1000 + parts * last_place(fraction.len())),
-            Err(at) => Err(count + 1 + at),
-        },
+    let (whole, rest) = text.split_at(count);
+    let whole = written(whole) * 1000;
+    match rest {
+        [] => Ok(whole),
+        [b'.', fraction @ ..] => {
+            let parts = numeral_of(fraction, 3).map_err(|at| count + 1 + at)?;
+            Ok(whole + parts * last_place(fraction.len()))
+        }
         _ => Err(count),
-    }
-}
-
-// A channel: 1 to 3 digits, at most 255.
-fn channel_in(field: usize, text: &[u8]) -> Result<u8, NumberFault>
-    ensures { result ≡ limited field (numeral 3 text.now) }
-{
-    match numeral_of(text, 3) {
-        Ok(number) if number <= 255 => Ok(number as u8),
-        Ok(_) => Err(NumberFault::Limit { field }),
-        Err(offset) => Err(NumberFault::Form { field, offset }),
-    }
-}
-
-fn positive(field: usize, size: Result<u32, usize>) -> Result<i32, NumberFault>
-    requires { IfOk size (λ n. n < 1_000_000_000) }
-    ensures { result ≡ plus field size }
-{
-    match size {
-        Ok(thousandths) => Ok(thousandths as i32),
-        Err(offset) => Err(NumberFault::Form { field, offset }),
-    }
-}
-
-// The minus covers the whole number, and stands before the size's first byte.
-fn negative(field: usize, size: Result<u32, usize>) -> Result<i32, NumberFault>
-    requires { MatchResult size (λ n. n < 1_000_000_000) (λ at. at < 2 ^ 63) }
-    ensures { result ≡ minus field size }
-{
-    match size {
-        Ok(thousandths) => Ok(-(thousandths as i32)),
-        Err(at) => Err(NumberFault::Form {
-            field,
-            offset: at + 1,
-        }),
-    }
-}
-
-// A value: an optional minus, then its size.
-fn value_in(field: usize, text: &[u8]) -> Result<i32, NumberFault>
-    ensures { result ≡ signed_of field text.now }
-{
-    match text {
-        [b'-', digits @ ..] => negative(field, thousandths(digits)),
-        digits => positive(field, thousandths(digits)),
     }
 }
 
@@ -144,7 +85,12 @@ impl Field<'_> {
         ensures is { result ≡ channel_of (shown self.entry) }
         ensures reads { Reads Channel ChannelForm (shown self.entry) result }
     {
-        channel_in(self.number, self.bytes)
+        let field = self.number;
+        let number = numeral_of(self.bytes, 3).map_err(|offset| NumberFault::Form {
+            field,
+            offset,
+        })?;
+        u8::try_from(number).map_err(|_| NumberFault::Limit { field })
     }
 
     // The value that the field writes, in signed thousandths: an optional minus, which covers the whole number,
@@ -153,6 +99,23 @@ impl Field<'_> {
         ensures is { result ≡ value_of (shown self.entry) }
         ensures reads { Reads Value ValueForm (shown self.entry) result }
     {
-        value_in(self.number, self.bytes)
+        let field = self.number;
+        match self.bytes {
+            // The minus stands before the size's first byte.
+            [b'-', digits @ ..] => {
+                let size = thousandths(digits).map_err(|at| NumberFault::Form {
+                    field,
+                    offset: at + 1,
+                })?;
+                Ok(-(size as i32))
+            }
+            digits => {
+                let size = thousandths(digits).map_err(|offset| NumberFault::Form {
+                    field,
+                    offset,
+                })?;
+                Ok(size as i32)
+            }
+        }
     }
 }

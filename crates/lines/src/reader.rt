@@ -1,48 +1,27 @@
 // A whole line, read.
-ghost use Rattle.std.specs.Prelude.{◌≡◌, length};
-ghost use Rattle.std.specs.Str.{bytes_eq};
+ghost use Rattle.std.specs.Prelude.{◌≡◌};
 ghost use Rattle.lines.specs.Asking.{ReadExactly};
-ghost use Rattle.lines.specs.Reading.{operation_in, number_at, asked, read_of};
-ghost use Rattle.lines.specs.Words.{channel, value, kinds, operation_of_word};
+ghost use Rattle.lines.specs.Fields.{shown};
+ghost use Rattle.lines.specs.Reading.{operation_in, number_of, number_at, asked, read_of};
+ghost use Rattle.lines.specs.Words.{operation_of_word};
 
 use crate::fault::LineFault;
 use crate::fields::{field, semicolons};
+use crate::kind::{Kind, kinds};
+use crate::part::Field;
 use service::{Operation, Request};
-
-// Whether a text is this word.
-fn is_word(text: &[u8], word: &[u8]) -> bool
-    ensures { result ≡ bytes_eq text.now word.now }
-{
-    text == word
-}
 
 // The operation that a word asks for.
 fn operation_named(word: &[u8]) -> Option<Operation>
     ensures { result ≡ operation_of_word word.now }
 {
-    if is_word(word, b"put") {
-        Some(Operation::Put)
-    } else if is_word(word, b"drop") {
-        Some(Operation::Drop)
-    } else if is_word(word, b"count") {
-        Some(Operation::Count)
-    } else if is_word(word, b"push") {
-        Some(Operation::Push)
-    } else if is_word(word, b"pop") {
-        Some(Operation::Pop)
-    } else {
-        None
-    }
-}
-
-// How many fields stand behind an operation's word.
-fn fields_behind(operation: Operation) -> usize
-    ensures { result ≡ length (kinds operation) }
-{
-    match operation {
-        Operation::Put | Operation::Drop | Operation::Count => 2,
-        Operation::Push => 1,
-        Operation::Pop => 0,
+    match word {
+        b"put" => Some(Operation::Put),
+        b"drop" => Some(Operation::Drop),
+        b"count" => Some(Operation::Count),
+        b"push" => Some(Operation::Push),
+        b"pop" => Some(Operation::Pop),
+        _ => None,
     }
 }
 
@@ -50,13 +29,10 @@ fn fields_behind(operation: Operation) -> usize
 fn operation_of(line: &[u8]) -> Result<Operation, LineFault>
     ensures { result ≡ operation_in line.now }
 {
-    let Some(word) = field(line, 0) else {
-        return Err(LineFault::Word);
-    };
-    let Some(operation) = operation_named(word.bytes) else {
-        return Err(LineFault::Word);
-    };
-    let wanted = fields_behind(operation);
+    let operation = field(line, 0)
+        .and_then(|word| operation_named(word.bytes))
+        .ok_or(LineFault::Word)?;
+    let wanted = kinds(operation).len();
     let behind = semicolons(line);
     if behind < wanted {
         return Err(LineFault::Missing { field: behind + 1 });
@@ -67,33 +43,32 @@ fn operation_of(line: &[u8]) -> Result<Operation, LineFault>
     Ok(operation)
 }
 
-fn channel_at(line: &[u8], number: usize) -> Result<i32, LineFault>
-    ensures { result ≡ number_at channel line.now number }
+// The number that a field of this kind writes.
+fn number_of(field: Field<'_>, kind: Kind) -> Result<i32, LineFault>
+    ensures { result ≡ number_of kind (shown field.entry) }
 {
-    let Some(found) = field(line, number) else {
-        return Err(LineFault::Missing { field: number });
-    };
-    Ok(i32::from(found.channel()?))
+    match kind {
+        Kind::Channel => Ok(i32::from(field.channel()?)),
+        Kind::Value => Ok(field.value()?),
+    }
 }
 
-fn value_at(line: &[u8], number: usize) -> Result<i32, LineFault>
-    ensures { result ≡ number_at value line.now number }
+// The number in the line's field with this number, which is of this kind.
+fn number_at(line: &[u8], number: usize, kind: Kind) -> Result<i32, LineFault>
+    ensures { result ≡ number_at kind line.now number }
 {
-    let Some(found) = field(line, number) else {
-        return Err(LineFault::Missing { field: number });
-    };
-    Ok(found.value()?)
+    let found = field(line, number).ok_or(LineFault::Missing { field: number })?;
+    number_of(found, kind)
 }
 
 // The request of a line whose operation is known: its numbers, in the order of the fields.
 fn request_of(line: &[u8], operation: Operation) -> Result<Request, LineFault>
     ensures { result ≡ asked line.now operation }
 {
-    let (first, second) = match operation {
-        Operation::Put | Operation::Drop => (channel_at(line, 1)?, value_at(line, 2)?),
-        Operation::Count => (value_at(line, 1)?, value_at(line, 2)?),
-        Operation::Push => (value_at(line, 1)?, 0),
-        Operation::Pop => (0, 0),
+    let (first, second) = match *kinds(operation) {
+        [] => (0, 0),
+        [kind] => (number_at(line, 1, kind)?, 0),
+        [kind, next, ..] => (number_at(line, 1, kind)?, number_at(line, 2, next)?),
     };
     Ok(Request {
         operation,

@@ -1,15 +1,16 @@
-// Faults as numbers.
-ghost use Rattle.std.specs.Prelude.{◌≡◌};
-ghost use Rattle.lines.specs.Faults.{number_report, line_report};
+// Faults as numbers, and in words.
+ghost use Rattle.std.specs.Prelude.{◌≡◌, Some};
+ghost use Rattle.lines.specs.Faults.{number_report, line_report, number_words, line_text};
 
 use crate::fault::{LineFault, NumberFault, Report};
+use std::error::Error;
 use std::fmt;
 
-impl NumberFault {
-    pub fn report(self) -> Report
-        ensures { result ≡ number_report self }
-    {
-        match self {
+impl From<NumberFault> for Report {
+    ghost from_gives = { λ e r. r ≡ number_report e };
+
+    fn from(fault: NumberFault) -> Report {
+        match fault {
             NumberFault::Form { field, offset } => Report {
                 cause: 3,
                 field,
@@ -24,11 +25,11 @@ impl NumberFault {
     }
 }
 
-impl LineFault {
-    pub fn report(self) -> Report
-        ensures { result ≡ line_report self }
-    {
-        match self {
+impl From<LineFault> for Report {
+    ghost from_gives = { λ e r. r ≡ line_report e };
+
+    fn from(fault: LineFault) -> Report {
+        match fault {
             LineFault::Word => Report {
                 cause: 1,
                 field: 0,
@@ -39,26 +40,43 @@ impl LineFault {
                 field,
                 offset: 0,
             },
-            LineFault::Number(fault) => fault.report(),
+            LineFault::Number(fault) => Report::from(fault),
         }
     }
 }
 
-// The fault in words, with its numbers.
+// What is wrong with a number, in words.
+impl fmt::Display for NumberFault {
+    ghost output = { λ e. Some (number_words e) };
+
+    fn fmt<W: fmt::Write>(&self, f: &mut fmt::Formatter<W>) -> fmt::Result {
+        f.write_str(match self {
+            NumberFault::Form { .. } => "the number breaks its form here",
+            NumberFault::Limit { .. } => "the channel is over 255",
+        })
+    }
+}
+
+// The fault with its numbers, then in words.
 impl fmt::Display for LineFault {
+    ghost output = { λ e. Some (line_text e) };
+
     fn fmt<W: fmt::Write>(&self, f: &mut fmt::Formatter<W>) -> fmt::Result {
         let Report {
             cause,
             field,
             offset,
-        } = self.report();
-        let words = match self {
-            LineFault::Word => "no operation has this word",
-            LineFault::Missing { .. } => "this field is missing",
-            LineFault::Surplus { .. } => "this field is one too many",
-            LineFault::Number(NumberFault::Form { .. }) => "the number breaks its form here",
-            LineFault::Number(NumberFault::Limit { .. }) => "the channel is over 255",
-        };
-        write!(f, "cause {cause}, field {field}, offset {offset}: {words}")
+        } = Report::from(*self);
+        write!(f, "cause {cause}, field {field}, offset {offset}: ")?;
+        match self {
+            LineFault::Word => write!(f, "no operation has this word"),
+            LineFault::Missing { .. } => write!(f, "this field is missing"),
+            LineFault::Surplus { .. } => write!(f, "this field is one too many"),
+            LineFault::Number(fault) => write!(f, "{fault}"),
+        }
     }
 }
+
+impl Error for NumberFault {}
+
+impl Error for LineFault {}

@@ -1,17 +1,16 @@
-use Rattle.std.proofs.Common.{◌≡◌, length, take, Ok, sym, ap, ◌∙◌, arith}
-use Rattle.std.proofs.lemmas.List.{take_all}
-use Rattle.lines.specs.Digits.{worth}
-use Rattle.lines.proofs.DigitLaws.{numeral_all, leading-most}
+use Rattle.std.proofs.Common.{sym, ◌∙◌, arith}
+use Rattle.lines.proofs.DigitLaws.{leading_length, leading-most, leading_each}
 use Rattle.lines.proofs.numbers.numeral_of.Goals as goal
 
-pub returns-then-run-text : goal.returns-then-run-text
-returns-then-run-text c =
-    let text = c.args.text.now in
-    let run = c.leading_digits-run in
-    let all : run.result.count ≡ length text = c.if-run-text.true in
-    record {
-      is =
-          ap Ok (run.ensures.value ∙ ap (λ n. worth (take n text)) all ∙ ap worth (take_all (length text) text (omega arith)))
-          ∙ sym (numeral_all c.args.most text (omega arith) (sym run.ensures.count ∙ all));
-      ok = (rw all at run.ensures.small, omega arith, omega (arith, run.ensures.count, leading-most c.args.most text));
-    }
+pub written-requires-clause-few : goal.written-requires-clause-few
+written-requires-clause-few c = omega (arith, c.leading_digits-count.ensures, leading-most c.args.most c.args.text.now)
+
+pub written-requires-clause-each : goal.written-requires-clause-each
+written-requires-clause-each c = leading_each c.args.most c.args.text.now (sym c.leading_digits-count.ensures ∙ c.if-count-text.true)
+
+pub returns-then-count-text-clause-ok : goal.returns-then-count-text-clause-ok
+returns-then-count-text-clause-ok c =
+    (c.written.ensures.small, omega arith, omega (arith, c.leading_digits-count.ensures, leading-most c.args.most c.args.text.now))
+
+pub returns-else-count-gt0-clause-ok : goal.returns-else-count-gt0-clause-ok
+returns-else-count-gt0-clause-ok c = omega (arith, c.leading_digits-count.ensures, leading_length c.args.most c.args.text.now)
