@@ -1,11 +1,11 @@
 -- Laws of what a sequence of bounded length holds: its unused places, and what is left without its last element.
-use Rattle.std.proofs.Common.{◌≡◌, ℕ, suc, ◌+◌, ◌-◌, ◌<◌, ◌≤◌, true, false, ◌⊎◌, inl, inr, List, [], ◌∷◌, length, take, drop, set, replicate, Some, None, Option, Ok, Err, Result, IsOk, IsErr, ◌↔◌, sym, ap, ◌∙◌, arith, length-drop}
-use Rattle.std.proofs.lemmas.List.{drop-set, drop-set-lt, drop-drop, drop-replicate, take-append-le, length-set, length_push, length-take-le}
+use Rattle.std.proofs.Common.{◌≡◌, ℕ, suc, ◌+◌, ◌-◌, ◌<◌, ◌≤◌, true, false, ◌⊎◌, inl, inr, List, ◌∷◌, length, drop, set, replicate, Ok, Err, Result, IsOk, IsErr, ◌↔◌, sym, ap, ◌∙◌, arith, length-drop}
+use Rattle.std.proofs.lemmas.List.{drop-set, drop-set-lt, drop-drop, drop-replicate, length-set, length-take-le}
 use Rattle.std.proofs.lemmas.Bool.{cases_lt, true≢false}
 use Rattle.std.proofs.lemmas.Slice.{drop-put_mid}
 use borrow.Rule.Slice.PartMut.{put_mid, mid_of, same_len_mid}
 use Rattle.lists.specs.Filling.{Filled}
-use Rattle.lists.specs.Held.{Contents, Made, Popped}
+use Rattle.lists.specs.Held.{Contents, Made}
 
 -- the unused places after one more element, and after one less
 pub filled-push : {T : Type 0} {items : List T} {len n : ℕ} {blank : T} (x : T) → Filled items len n blank → len < n → Filled (set items len x) (len + 1) n blank
@@ -27,17 +27,6 @@ filled-pop {T} {items} {len} {n} {blank} f some =
       rest =
           drop-set items (len - 1) blank (omega arith) ∙ ap (λ k. blank ∷ drop k items) before ∙ ap (λ l. blank ∷ l) f.rest ∙ ap (λ k. replicate k blank) more;
     }
-
--- what taking the last element off leaves in front
-module _ {T : Type 0} where
-  pub popped-take : (r : Option T) (was left : List T) (n : ℕ) → Popped r was left → n < length was → take n left ≡ take n was
-  popped-take (Some x) was left n p h =
-      sym (take-append-le n left (x ∷ []) (omega (arith, ap length p, length_push left x))) ∙ ap (take n) (sym p)
-  popped-take None was left n p h = absurd (omega (arith, ap length p.0))
-
-  pub popped-length : (r : Option T) (was left : List T) → Popped r was left → 0 < length was → length left < length was
-  popped-length (Some x) was left p h = omega (arith, ap length p, length_push left x)
-  popped-length None was left p h = absurd (omega (arith, ap length p.0))
 
 -- a part of the places from `a` on written over, up to the new length
 pub filled-put : {T : Type 0} {items : List T} {len n : ℕ} {blank : T} (a k : ℕ) (ys : List T) (now : ℕ) → Filled items len n blank → a ≤ len → len ≤ now → now ≡ a + k → now ≤ n → length ys ≡ length (mid_of a k items)

@@ -1,9 +1,12 @@
 -- One turn of a loop over a list, which reads the element x at the place i.
-use Rattle.std.proofs.Common.{◌≡◌, ℕ, ◌+◌, ◌<◌, Bool, true, false, List, [], ◌∷◌, ◌++◌, length, get_or, drop, sym, ap, ◌∙◌, append_assoc, arith, length-append}
-use Rattle.std.proofs.lemmas.List.{at_drop_more, length_push}
-use Rattle.std.proofs.lemmas.Bool.{cond-true, cond-false}
-use Rattle.lists.specs.Membership.{member}
-use Rattle.lists.specs.Difference.{without}
+use Rattle.std.proofs.Common.{◌≡◌, ℕ, suc, ◌+◌, ◌<◌, ◌≤◌, Bool, true, false, cond, not, ◌&&◌, ◌||◌, List, [], ◌∷◌, ◌++◌, length, get_or, take, drop, count_by, sym, ap, ◌∙◌, arith}
+use Rattle.std.proofs.lemmas.List.{at_drop_more, drop_all, length_push}
+use Rattle.std.proofs.lemmas.List.Sums.{count_by_more_yes, count_by_more_no}
+use Rattle.std.proofs.lemmas.Bool.{cond-true, cond-false, or_left}
+use Rattle.lists.specs.Beginnings.{common}
+use Rattle.lists.specs.Membership.{member, distinct}
+use Rattle.lists.specs.Places.{place}
+use Rattle.lists.proofs.Beginnings.{common-nothing}
 use Rattle.lists.proofs.Merging.{adding, adding-length}
 
 -- a function of what is left of the list
@@ -11,30 +14,10 @@ pub left-more : {X Y : Type 0} (F : List X → Y) (xs : List X) (i : ℕ) (x : X
 left-more F xs i x h e = at_drop_more F xs i x h ∙ ap (λ y. F (y ∷ drop (i + 1) xs)) (sym e)
 
 module _ {A : Type 0} (same : A → A → Bool) (so xs : List A) (i : ℕ) (x : A) (h : i < length xs) (e : x ≡ get_or xs i x) where
-  -- taking out: an element that the other list lacks goes behind what was kept
-  pub without_kept : (b : List A) → member same x b ≡ false → (so ++ x ∷ []) ++ without same (drop (i + 1) xs) b ≡ so ++ without same (drop i xs) b
-  without_kept b t =
-      append_assoc so (x ∷ []) (without same (drop (i + 1) xs) b)
-      ∙ ap (λ l. so ++ l) (sym (left-more (λ l. without same l b) xs i x h e ∙ cond-false (member same x b) (without same (drop (i + 1) xs) b) (x ∷ without same (drop (i + 1) xs) b) t))
-
-  pub without_passed : (b : List A) → member same x b ≡ true → so ++ without same (drop (i + 1) xs) b ≡ so ++ without same (drop i xs) b
-  without_passed b t =
-      ap (λ l. so ++ l) (sym (left-more (λ l. without same l b) xs i x h e ∙ cond-true (member same x b) (without same (drop (i + 1) xs) b) (x ∷ without same (drop (i + 1) xs) b) t))
-
-  -- an element that is kept is one more than was kept before
-  pub without-over : (b : List A) → member same x b ≡ false → length so < length (so ++ without same (drop i xs) b)
-  without-over b t =
-      let k = without_kept b t in
-      omega (arith, ap length k, length-append (so ++ x ∷ []) (without same (drop (i + 1) xs) b), length_push so x)
-
   -- merging: a new element goes behind the others
   pub adding_new : member same x so ≡ false → adding same (so ++ x ∷ []) (drop (i + 1) xs) ≡ adding same so (drop i xs)
   adding_new t =
       ap (λ l. adding same l (drop (i + 1) xs)) (sym (cond-false (member same x so) so (so ++ x ∷ []) t)) ∙ sym (left-more (adding same so) xs i x h e)
-
-  pub adding_old : member same x so ≡ true → adding same so (drop (i + 1) xs) ≡ adding same so (drop i xs)
-  adding_old t =
-      ap (λ l. adding same l (drop (i + 1) xs)) (sym (cond-true (member same x so) so (so ++ x ∷ []) t)) ∙ sym (left-more (adding same so) xs i x h e)
 
   pub adding-over : member same x so ≡ false → length so < length (adding same so (drop i xs))
   adding-over t =

@@ -5,6 +5,7 @@ use std::alloc::AllocError;
 use std::marker::Model;
 
 // At most `N` elements. The places past the length hold `blank`, so that sequences with equal contents are equal records.
+#[derive(Copy)]
 pub struct Seq<T, const N: usize> {
     pub(crate) items: [T; N],
     pub(crate) len: usize,
@@ -28,6 +29,7 @@ impl<T, const N: usize> Model for Seq<T, N> {
     ghost inverse_ok = { λ s f. λ i. record { items = filled s.items s.len N s.blank f i; len = front_length s.items s.len N s.blank f i; blank = s.blank } };
 }
 
+// By hand: a derived one would clone for every `T: Clone`, whose clones need not keep the invariant.
 impl<T: Copy, const N: usize> Clone for Seq<T, N> {
     ghost is_clone = { λ x y. y ≡ x };
 
@@ -37,5 +39,3 @@ impl<T: Copy, const N: usize> Clone for Seq<T, N> {
         Ok(*self)
     }
 }
-
-impl<T: Copy, const N: usize> Copy for Seq<T, N> {}

@@ -10,7 +10,7 @@ invariant_of-self g c =
     let h = c.args.self.now.held in
     let was : length h ≡ c.self.inside.len = omega (arith, ap (λ v. length v.held) c.self.view_is, length-take-le c.self.inside.len c.self.inside.items (omega arith)) in
     let now = ap (λ v. length v.held) (c.self-2.view_is ∙ c.in_ok-try_push.ensures.held) in
-    let le : c.args.at ≤ s.len = omega (arith, now, length_push h c.args.x, length-take-le s.len s.items (omega arith)) in
+    let le : c.args.at ≤ s.len = omega (arith, now, length_push {X = g.row.T.Denot}, length-take-le s.len s.items (omega arith)) in
     filled-put c.args.at (s.len - c.args.at) c.rotate_right.new.self s.len c.self-2.invariant le (omega arith) (omega arith) (omega arith) c.rotate_right.ensures.len
 
 pub returns-clause-held : goal.returns-clause-held

@@ -1,5 +1,6 @@
 use Rattle.std.proofs.Common.{◌≡◌, length, sym, ap, ◌∙◌, refl, arith}
 use Rattle.std.proofs.lemmas.List.{at_drop_all}
+use Rattle.lists.specs.Held.{holding}
 use Rattle.lists.specs.Merging.{merged_into}
 use Rattle.lists.proofs.Held.{full-push, refused-fits}
 use Rattle.lists.proofs.Merging.{adding, adding_is}
@@ -30,4 +31,5 @@ returns-clause-held g c =
     let same = g.T.PartialEq.eq in
     let is : l.merged.held ≡ merged_into same c.args.self.now.held c.args.more.now =
     sym (at_drop_all (adding same l.merged.held) c.args.more.now l.x-index c.loop-x-test.false) ∙ l.invariant.merging ∙ adding_is same g.met.T.Order.tells c.args.self.now.held c.args.more.now in
-    c.self-2.view_is ∙ (λ i. record { held = is i; blank = l.invariant.blank i })
+    let whole : l.merged ≡ holding (merged_into same c.args.self.now.held c.args.more.now) c.args.self.now = λ i. record { held = is i; blank = l.invariant.blank i } in
+    cc
