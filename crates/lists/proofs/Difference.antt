@@ -2,10 +2,11 @@
 use Rattle.std.proofs.Common.{◌≡◌, Bool, true, false, cond, not, ◌&&◌, ◌||◌, ◌⊎◌, List, [], ◌∷◌, ◌++◌, refl, ap, ◌∙◌, inl, inr, arith}
 use Rattle.std.proofs.lemmas.Bool.{cases_Bool, or_left, or_right}
 use Rattle.std.proofs.lemmas.Bool.Decides.{nat_tests as ways}
+use Rattle.std.proofs.lemmas.List.Folds.{list_any-append}
 use Rattle.lists.specs.Orders.{Tells}
 use Rattle.lists.specs.Membership.{member, Distinct, Apart}
 use Rattle.lists.specs.Difference.{without}
-use Rattle.lists.proofs.Membership.{member-append, member-same, apart_from_member, apart_sym, distinct_append, distinct_apart}
+use Rattle.lists.proofs.Membership.{member-same, apart_from_member, apart_sym, distinct_append, distinct_apart}
 
 module _ {A : Type 0} (same : A → A → Bool) where
   pub without-append : (a b c : List A) → without same (a ++ b) c ≡ without same a c ++ without same b c
@@ -21,7 +22,7 @@ module _ {A : Type 0} (same : A → A → Bool) where
 
   pub without_twice : (a b c : List A) → without same (without same a b) c ≡ without same a (b ++ c)
   without_twice [] b c = refl
-  without_twice (x ∷ a) b c = rw (member-append same x b c) (go (cases_Bool (member same x b)) (without_twice a b c))
+  without_twice (x ∷ a) b c = rw (list_any-append (same x) b c) (go (cases_Bool (member same x b)) (without_twice a b c))
     where
       go : (member same x b ≡ true) ⊎ (member same x b ≡ false) → without same (without same a b) c ≡ without same a (b ++ c)
           → without same (cond (member same x b) (without same a b) (x ∷ without same a b)) c ≡ cond (member same x b || member same x c) (without same a (b ++ c)) (x ∷ without same a (b ++ c))

@@ -3,6 +3,7 @@ use Rattle.std.proofs.Common.{◌≡◌, ◌≤◌, Bool, true, false, not, ◌&
 use Rattle.std.proofs.lemmas.Bool.{both_ways, cases_Bool, or_parts, or_from, or_left, or_right, true≢false, eqb-true, eq-eqb, and_parts, and_from, not-true, not_from_false}
 use Rattle.std.proofs.lemmas.Bool.Decides.{nat_tests as ways}
 use Rattle.std.specs.List.{list_any}
+use Rattle.std.proofs.lemmas.List.Folds.{list_any-append}
 use Rattle.lists.specs.Orders.{Tells}
 use Rattle.lists.specs.Membership.{member, Distinct, distinct, Apart}
 
@@ -11,11 +12,6 @@ pub tells_eqb : Tells eqb
 tells_eqb = record { told = eqb-true; itself = λ x. eq-eqb x x refl }
 
 module _ {A : Type 0} (same : A → A → Bool) where
-  pub member-append : (x : A) (xs ys : List A) → member same x (xs ++ ys) ≡ member same x xs || member same x ys
-  member-append x [] ys = refl
-  member-append x (y ∷ xs) ys =
-      elim (same x y) as (λ b. b || member same x (xs ++ ys) ≡ (b || member same x xs) || member same x ys) [ true ↦ refl | false ↦ member-append x xs ys ]
-
   -- an element stands in a list exactly where the library finds one that equals it
   pub member_any : ((x y : A) → same x y ≡ same y x) → (x : A) (xs : List A) → list_any (λ y. same y x) xs ≡ member same x xs
   member_any symm x [] = refl
@@ -38,11 +34,11 @@ module _ {A : Type 0} (same : A → A → Bool) where
   pub distinct_append : (a b : List A) → Distinct same a → Distinct same b → Apart same a b → Distinct same (a ++ b)
   distinct_append [] b d e p = e
   distinct_append (x ∷ a) b d e p =
-      (member-append x a b ∙ or_from _ _ d.0 p.0, distinct_append a b d.1 e p.1)
+      (list_any-append (same x) a b ∙ or_from _ _ d.0 p.0, distinct_append a b d.1 e p.1)
 
   pub distinct-left : (a b : List A) → Distinct same (a ++ b) → Distinct same a
   distinct-left [] b d = tt
-  distinct-left (x ∷ a) b d = ((or_parts _ _ (sym (member-append x a b) ∙ d.0)).0, distinct-left a b d.1)
+  distinct-left (x ∷ a) b d = ((or_parts _ _ (sym (list_any-append (same x) a b) ∙ d.0)).0, distinct-left a b d.1)
 
   pub distinct-right : (a b : List A) → Distinct same (a ++ b) → Distinct same b
   distinct-right [] b d = d
@@ -50,7 +46,7 @@ module _ {A : Type 0} (same : A → A → Bool) where
 
   pub distinct_apart : (a b : List A) → Distinct same (a ++ b) → Apart same a b
   distinct_apart [] b d = tt
-  distinct_apart (x ∷ a) b d = ((or_parts _ _ (sym (member-append x a b) ∙ d.0)).1, distinct_apart a b d.1)
+  distinct_apart (x ∷ a) b d = ((or_parts _ _ (sym (list_any-append (same x) a b) ∙ d.0)).1, distinct_apart a b d.1)
 
 module _ {A : Type 0} (same : A → A → Bool) (tells : Tells same) where
   pub member-same : (x y : A) (b : List A) → same x y ≡ true → member same x b ≡ member same y b

@@ -2,11 +2,12 @@
 use Rattle.std.proofs.Common.{◌≡◌, ◌≤◌, Bool, true, false, cond, ◌||◌, ◌⊎◌, List, [], ◌∷◌, ◌++◌, length, sym, refl, ap, ◌∙◌, inl, inr, append_assoc, append-nil, le_trans, arith, length-append}
 use Rattle.std.proofs.lemmas.Bool.{cases_Bool}
 use Rattle.std.proofs.lemmas.Bool.Decides.{nat_tests as ways}
+use Rattle.std.proofs.lemmas.List.Folds.{list_any-append}
 use Rattle.lists.specs.Orders.{Tells}
 use Rattle.lists.specs.Membership.{member, Distinct}
 use Rattle.lists.specs.Difference.{without}
 use Rattle.lists.specs.Merging.{firsts, merge, merged_into}
-use Rattle.lists.proofs.Membership.{member-append, member-same, apart_from_member}
+use Rattle.lists.proofs.Membership.{member-same, apart_from_member}
 use Rattle.lists.proofs.Difference.{without-member, without-distinct, without_alike, without_twice, without_none, without-nothing, without_extend_distinct}
 
 module _ {A : Type 0} (same : A → A → Bool) where
@@ -55,7 +56,7 @@ module _ {A : Type 0} (same : A → A → Bool) (tells : Tells same) where
       go (inl e) =
           rw e (ap (λ l. a ++ l) (without_alike same (firsts same xs) a (x ∷ a) (λ y. let s = member-same same tells y x a in grind (arith, ways)) ∙ sym (without_twice same (firsts same xs) (x ∷ []) a)))
       go (inr e) =
-          rw e (append_assoc a (x ∷ []) _ ∙ ap (λ l. a ++ x ∷ l) (without_alike same (firsts same xs) (a ++ x ∷ []) (x ∷ a) (λ y. member-append same y a (x ∷ []) ∙ grind (arith, ways)) ∙ sym (without_twice same (firsts same xs) (x ∷ []) a)))
+          rw e (append_assoc a (x ∷ []) _ ∙ ap (λ l. a ++ x ∷ l) (without_alike same (firsts same xs) (a ++ x ∷ []) (x ∷ a) (λ y. list_any-append (same y) a (x ∷ []) ∙ grind (arith, ways)) ∙ sym (without_twice same (firsts same xs) (x ∷ []) a)))
 
   pub merged-nothing : (b : List A) → merged_into same [] b ≡ firsts same b
   merged-nothing b = without-nothing same (firsts same b)
@@ -70,7 +71,7 @@ module _ {A : Type 0} (same : A → A → Bool) (tells : Tells same) where
   merge_is a b = ap (λ z. merged_into same z b) (sym (merged-nothing a)) ∙ merged-append [] a b ∙ merged-nothing (a ++ b)
 
   pub merge-member : (x : A) (a b : List A) → member same x (merge same a b) ≡ member same x a || member same x b
-  merge-member x a b = firsts-member x (a ++ b) ∙ member-append same x a b
+  merge-member x a b = firsts-member x (a ++ b) ∙ list_any-append (same x) a b
 
   pub merge-distinct : (a b : List A) → Distinct same (merge same a b)
   merge-distinct a b = firsts-distinct (a ++ b)
@@ -79,7 +80,7 @@ module _ {A : Type 0} (same : A → A → Bool) (tells : Tells same) where
   merged-member x a b =
       let w = without-member same tells x (firsts same b) a in
       let f = firsts-member x b in
-      member-append same x a (without same (firsts same b) a) ∙ grind (arith, ways)
+      list_any-append (same x) a (without same (firsts same b) a) ∙ grind (arith, ways)
 
   pub merged_distinct : (a b : List A) → Distinct same a → Distinct same (merged_into same a b)
   merged_distinct a b d = without_extend_distinct same tells a (firsts same b) d (firsts-distinct b)

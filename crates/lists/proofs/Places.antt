@@ -1,12 +1,14 @@
 -- Laws of places: an element taken out and put back, and what stays distinct.
-use Rattle.std.proofs.Common.{◌≡◌, ℕ, zero, suc, ◌<◌, Bool, true, false, cond, ◌||◌, if◌then◌else◌, nat_lt, List, [], ◌∷◌, length, Some, None, sym, refl, ap, ◌∙◌, arith}
-use Rattle.std.specs.List.{insert, remove, position, position_or_len}
-use Rattle.std.proofs.lemmas.List.Recursion.{is_position_or_len}
+use Rattle.std.proofs.Common.{◌≡◌, ℕ, zero, suc, ◌+◌, ◌<◌, Bool, true, false, not, cond, ◌||◌, if◌then◌else◌, nat_lt, List, [], ◌∷◌, length, Some, None, sym, refl, ap, ◌∙◌, arith}
+use Rattle.std.specs.List.{insert, remove, position}
 use Rattle.std.proofs.lemmas.Bool.Decides.{nat_tests as ways}
 use Rattle.std.proofs.lemmas.Bool.{or_parts, or_from, true≢false}
 use Rattle.lists.specs.Orders.{Tells}
 use Rattle.lists.specs.Membership.{member, Distinct}
 use Rattle.lists.specs.Places.{place}
+
+next : (n : ℕ) → 1 + n ≡ suc n
+next n = omega arith
 
 module _ {A : Type 0} (same : A → A → Bool) where
   -- the place at which the library finds an element, if it finds one
@@ -14,20 +16,18 @@ module _ {A : Type 0} (same : A → A → Bool) where
   found x [] = refl
   found x (y ∷ a) = go (same x y) (found x a)
     where
-      go : (b : Bool) → nat_lt (place same x a) (length a) ≡ member same x a → nat_lt (cond b 0 (suc (place same x a))) (suc (length a)) ≡ b || member same x a
+      go : (b : Bool) → nat_lt (place same x a) (length a) ≡ member same x a → nat_lt (cond (not b) (1 + place same x a) 0) (suc (length a)) ≡ b || member same x a
       go true ih = grind (arith, ways)
       go false ih = grind (arith, ways)
 
   pub position_place : (x : A) (a : List A) → position (same x) a ≡ if member same x a then Some (place same x a) else None
-  position_place x a =
-      let at : place same x a ≡ position_or_len (same x) a = is_position_or_len (place same x) (same x) refl (λ y b. ap (cond (same x y) 0) (omega arith)) a in
-      ap (λ n. cond (nat_lt n (length a)) (Some n) None) (sym at) ∙ ap (λ b. cond b (Some (place same x a)) None) (found x a)
+  position_place x a = ap (λ b. cond b (Some (place same x a)) None) (found x a)
 
   pub place-within : (x : A) (a : List A) → member same x a ≡ true → place same x a < length a
   place-within x [] h = absurd (true≢false (sym h))
   place-within x (y ∷ a) h = go (same x y) (place-within x a) h
     where
-      go : (b : Bool) → (member same x a ≡ true → place same x a < length a) → b || member same x a ≡ true → cond b 0 (suc (place same x a)) < suc (length a)
+      go : (b : Bool) → (member same x a ≡ true → place same x a < length a) → b || member same x a ≡ true → cond (not b) (1 + place same x a) 0 < suc (length a)
       go true r h = omega arith
       go false r h = omega (arith, r h)
 
@@ -50,18 +50,18 @@ module _ {A : Type 0} (same : A → A → Bool) (tells : Tells same) where
   place-back x (y ∷ a) h = go (same x y) (tells.told x y) (place-back x a) h
     where
       go : (b : Bool) → (b ≡ true → x ≡ y) → (member same x a ≡ true → insert (remove a (place same x a)) (place same x a) x ≡ a) → b || member same x a ≡ true
-          → insert (remove (y ∷ a) (cond b 0 (suc (place same x a)))) (cond b 0 (suc (place same x a))) x ≡ y ∷ a
+          → insert (remove (y ∷ a) (cond (not b) (1 + place same x a) 0)) (cond (not b) (1 + place same x a) 0) x ≡ y ∷ a
       go true t r h = ap (λ z. z ∷ a) (t refl)
-      go false t r h = ap (λ l. y ∷ l) (r h)
+      go false t r h = rw (next (place same x a)) (ap (λ l. y ∷ l) (r h))
 
   pub place-gone : (x : A) (a : List A) → Distinct same a → member same x a ≡ true → member same x (remove a (place same x a)) ≡ false
   place-gone x [] d h = absurd (true≢false (sym h))
   place-gone x (y ∷ a) d h = go (same x y) refl (place-gone x a d.1) h
     where
       go : (b : Bool) → same x y ≡ b → (member same x a ≡ true → member same x (remove a (place same x a)) ≡ false) → b || member same x a ≡ true
-          → member same x (remove (y ∷ a) (cond b 0 (suc (place same x a)))) ≡ false
+          → member same x (remove (y ∷ a) (cond (not b) (1 + place same x a) 0)) ≡ false
       go true e r h = ap (λ z. member same z a) (tells.told x y e) ∙ d.0
-      go false e r h = or_from _ _ e (r h)
+      go false e r h = rw (next (place same x a)) (or_from _ _ e (r h))
 
   -- an element that is new may stand anywhere
   member_inserted : (x y : A) (k : ℕ) (a : List A) → same x y ≡ false → member same x a ≡ false → member same x (insert a k y) ≡ false

@@ -1,11 +1,11 @@
 -- Which elements a list has, whether any stands twice, and whether two lists share one. Assumes nothing.
-use Rattle.std.specs.Prelude.{◌≡◌, Bool, true, false, not, ◌&&◌, ◌||◌, List, [], ◌∷◌}
+use Rattle.std.specs.Prelude.{◌≡◌, Bool, true, false, not, ◌&&◌, List, [], ◌∷◌}
+use Rattle.std.specs.List.{list_any}
 
 module _ {A : Type 0} (same : A → A → Bool) where
   -- whether x stands in a list
   abbrev pub member : A → List A → Bool
-  member x [] = false
-  member x (y ∷ ys) = same x y || member x ys
+  member x xs = list_any (same x) xs
 
   -- no element stands twice
   abbrev pub Distinct : List A → Type 0

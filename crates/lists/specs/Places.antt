@@ -1,12 +1,11 @@
 -- Where an element stands in a list, and lists with one element taken out of a place. Assumes nothing.
-use Rattle.std.specs.Prelude.{◌≡◌, ℕ, suc, ◌<◌, ◌≤◌, Bool, true, false, cond, List, [], ◌∷◌, length, Some, None, Option}
-use Rattle.std.specs.List.{insert, remove}
+use Rattle.std.specs.Prelude.{◌≡◌, ℕ, ◌<◌, ◌≤◌, Bool, true, false, List, length, Some, None, Option}
+use Rattle.std.specs.List.{insert, remove, position_or_len}
 use Rattle.lists.specs.Membership.{member, Distinct}
 
 -- the place where x first stands in a list, counted from 0; the list's length where it does not
 abbrev pub place : {A : Type 0} → (A → A → Bool) → A → List A → ℕ
-place same x [] = 0
-place same x (y ∷ ys) = cond (same x y) 0 (suc (place same x ys))
+place same x xs = position_or_len (same x) xs
 
 -- a place, if there is one, is in a list of n elements
 abbrev pub PlaceIn : Option ℕ → ℕ → Type 0
