@@ -1,12 +1,8 @@
 -- One turn of a loop over a list, which reads the element x at the place i.
-use Rattle.std.proofs.Common.{◌≡◌, ℕ, suc, ◌+◌, ◌<◌, ◌≤◌, Bool, true, false, cond, not, ◌&&◌, ◌||◌, List, [], ◌∷◌, ◌++◌, length, get_or, take, drop, count_by, sym, ap, ◌∙◌, arith}
-use Rattle.std.proofs.lemmas.List.{at_drop_more, drop_all, length_push}
-use Rattle.std.proofs.lemmas.List.Sums.{count_by_more_yes, count_by_more_no}
-use Rattle.std.proofs.lemmas.Bool.{cond-true, cond-false, or_left}
-use Rattle.lists.specs.Beginnings.{common}
-use Rattle.lists.specs.Membership.{member, distinct}
-use Rattle.lists.specs.Places.{place}
-use Rattle.lists.proofs.Beginnings.{common-nothing}
+use Rattle.std.proofs.Common.{◌≡◌, ℕ, ◌+◌, ◌<◌, Bool, false, List, [], ◌∷◌, ◌++◌, length, get_or, drop, sym, ap, ◌∙◌, arith}
+use Rattle.std.proofs.lemmas.List.{at_drop_more, length_push}
+use Rattle.std.proofs.lemmas.Bool.{cond-false}
+use Rattle.lists.specs.Membership.{member}
 use Rattle.lists.proofs.Merging.{adding, adding-length}
 
 -- a function of what is left of the list
