@@ -8,13 +8,13 @@ use std::fmt;
 #[derive(Clone, Copy, PartialEq, Eq, Debug)]
 pub enum AgreementRefusal {
     // The number of boards is not 1 to 7.
-    Size,
+    Size = 1,
     // There is no such epoch, or no such board.
-    Unknown,
+    Unknown = 4,
     // The board has proposed in the epoch already.
-    Already,
+    Already = 8,
     // Fewer than a majority have proposed in the epoch.
-    TooFew,
+    TooFew = 11,
 }
 
 // The number under which the refusal is reported.
@@ -22,12 +22,7 @@ impl From<AgreementRefusal> for u8 {
     ghost from_gives = { λ refusal number. number ≡ number_of refusal };
 
     fn from(refusal: AgreementRefusal) -> u8 {
-        match refusal {
-            AgreementRefusal::Size => 1,
-            AgreementRefusal::Unknown => 4,
-            AgreementRefusal::Already => 8,
-            AgreementRefusal::TooFew => 11,
-        }
+        refusal as u8
     }
 }
 
