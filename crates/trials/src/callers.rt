@@ -14,7 +14,7 @@ pub fn ask_all<A: Agreement>(
     n: usize,
     epoch: usize,
 ) -> Result<BoardSet, AgreementRefusal>
-    ensures { Asked n epoch (A.Agreement.decided asked.new epoch) result }
+    ensures { Asked n epoch ((A.Agreement.standing asked.new).decided epoch) result }
 {
     asked.clear(n)?;
     for board in 0..n {
@@ -31,7 +31,7 @@ pub fn ask_twice<A: Agreement>(
     later: usize,
     board: usize,
 ) -> Result<(BoardSet, BoardSet), AgreementRefusal>
-    ensures { elim result [ Ok p ↦ boards_of p.0 ≡ boards_of p.1 | Err e ↦ learn_refusal (A.Agreement.size asked.old) (A.Agreement.proposed asked.old) epoch ≡ Some e ] }
+    ensures { elim result [ Ok p ↦ boards_of p.0 ≡ boards_of p.1 | Err e ↦ learn_refusal (A.Agreement.standing asked.old) epoch ≡ Some e ] }
 {
     let before = asked.learn(epoch)?;
     let _ = asked.propose(later, board);

@@ -3,4 +3,4 @@ use Rattle.trials.proofs.callers.ask_all.Given as goal
 
 abbrev pub invariant-loop-board : goal.invariant-loop-board
 invariant-loop-board g l =
-    (g.A.Agreement.size l.asked ≡ l.n) × ((c : ℕ) → g.A.Agreement.proposed l.asked l.epoch c ≡ ltb c l.board)
+    let standing = g.A.Agreement.standing l.asked in (standing.size ≡ l.n) × ((c : ℕ) → standing.proposed l.epoch c ≡ ltb c l.board)
