@@ -4,6 +4,7 @@ pub mod Merging
 pub mod Beginnings
 pub mod Places
 pub mod Orders
+pub mod Ranges
 pub mod Held
 pub mod Edits
 pub mod Splits
