@@ -5,7 +5,7 @@ use std::process::Abort;
 use std::test::Fail;
 
 fn accepts(res: Result<(), AgreementRefusal>) -> Result<(), Fail> {
-    res.or(Err(Fail::new("a call that should be accepted is not")))
+    res.map_err(|_| Fail::new("a call that should be accepted is not"))
 }
 
 fn refuses<T: Drop>(
@@ -29,7 +29,7 @@ fn answers(
     res: Result<BoardSet, AgreementRefusal>,
     boards: BoardSet,
 ) -> Result<(), Fail> {
-    let set = res.or(Err(Fail::new("a learn that should be accepted is not")))?;
+    let set = res.map_err(|_| Fail::new("a learn that should be accepted is not"))?;
     same(rt, set, boards)
 }
 
@@ -131,7 +131,7 @@ fn asked_twice<A: Agreement>(rt: &impl Abort, a: &mut A) -> Result<(), Fail> {
     accepts(a.propose(2, 2))?;
     accepts(a.propose(2, 0))?;
     let asked = ask_twice(a, 2, 2, 1);
-    let (before, after) = asked.or(Err(Fail::new("a learn that should be accepted is not")))?;
+    let (before, after) = asked.map_err(|_| Fail::new("a learn that should be accepted is not"))?;
     same(rt, before, boards(&[0, 2]))?;
     same(rt, after, before)
 }

@@ -160,7 +160,7 @@ fn long_lines(rt: HostRuntime) -> Result<(), Fail> {
 #[test]
 fn fields_with_their_places(rt: HostRuntime) -> Result<(), Fail> {
     let line = b"put;4;-0.75";
-    let value = field(line, 2).ok_or(Fail::new("field 2 is there"))?;
+    let value = field(line, 2).ok_or_else(|| Fail::new("field 2 is there"))?;
     assert_eq!(rt; value.number, 2);
     assert_eq!(rt; value.start, 6);
     assert!(rt; value.bytes == b"-0.75".as_slice());

@@ -27,24 +27,26 @@ pub(crate) fn note(kind: u8, place: u8, value: i32, channel: u8) -> Note {
 // Performs a request, checks the reply, and gives the service afterwards with the note.
 pub(crate) fn performed<S: Service>(
     rt: &impl Abort,
-    service: S,
+    service: &S,
     request: Request,
     code: Code,
     number: i32,
 ) -> (S, Note) {
-    let Doing { after, reply, note } = service.perform(request);
+    let Doing { after, reply, note } = (*service).perform(request);
     assert_eq!(rt; reply, Reply { code, number });
     (after, note)
 }
 
 // A request that is not done: the code with number 0, and nothing to undo.
-pub(crate) fn refused<S: Service>(rt: &impl Abort, service: S, request: Request, code: Code) -> S {
+pub(crate) fn refused<S: Service>(rt: &impl Abort, service: &S, request: Request, code: Code) -> S {
     let (after, note) = performed(rt, service, request, code, 0);
     assert_eq!(rt; note, Note::nothing());
     after
 }
 
 // The service before the doing that a note is of.
-pub(crate) fn undone<S: Service>(service: S, note: Note) -> Result<S, Fail> {
-    service.undo(note).ok_or(Fail::new("the note fits"))
+pub(crate) fn undone<S: Service>(service: &S, note: Note) -> Result<S, Fail> {
+    (*service)
+        .undo(note)
+        .ok_or_else(|| Fail::new("the note fits"))
 }
