@@ -31,8 +31,8 @@ impl From<NumberFault> for LineFault {
     }
 }
 
-// A fault as it is reported: its cause, the field, and the offset in that field. The cause is the number, 1 to 4, by
-// which the page of the line format knows it.
+// A fault as it is reported: its cause, the field, and the offset in that field. The cause stays a number, 1 to 4, by a rule
+// of the project: so it is known to those who read reports.
 #[derive(Clone, Copy, PartialEq, Eq, Debug)]
 pub struct Report {
     pub cause: u8,

@@ -9,7 +9,7 @@ fn place(text: &[u8], mark: u8) -> Option<usize>
     text.iter().position(|byte| *byte == mark)
 }
 
-// The text before the first mark, and the text behind it where there is a mark.
+// The text before the first mark, and the text behind it where there is a mark. A pair, since a text with no mark has the first.
 pub fn cut(text: &[u8], mark: u8) -> (&[u8], Option<&[u8]>)
     ensures parts { parts mark text.now ≡ beside mark result.0.now result.1 }
     ensures whole { text.now ≡ rejoined mark result.0.now result.1 }

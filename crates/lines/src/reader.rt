@@ -11,7 +11,7 @@ use crate::kind::{Kind, kinds};
 use crate::part::Field;
 use service::{Operation, Request};
 
-// The operation that a word asks for.
+// The operation that a word asks for. No `TryFrom`, since both types are of other crates.
 fn operation_named(word: &[u8]) -> Option<Operation>
     ensures { result ≡ operation_of_word word.now }
 {

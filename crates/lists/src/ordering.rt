@@ -4,7 +4,8 @@ ghost use Rattle.lists.specs.Orders.{Tells, before};
 ghost use Rattle.std.proofs.Common.{rules};
 
 // Elements of which any two compare: one comes before the other, or they are the same element. The library's `Ord` has the
-// laws of an order; each implementation shows by `tells` that elements which are equal are one element.
+// laws of an order; each implementation shows by `tells` that elements which are equal are one element. The provided tests name what
+// `==` and `<` mean in contracts.
 pub trait Order: Ord + Copy {
     // Whether the two are one element.
     fn is_same(&self, other: &Self) -> bool

@@ -5,7 +5,8 @@ ghost use Rattle.lists.specs.Held.{places};
 
 use crate::seq::Seq;
 
-// As many elements as `len` says, if there are so many places. Nothing is known of it.
+// As many elements as `len` says, if there are so many places. Nothing is known of it. An array with a length: a rule of the
+// project, as such records are lent.
 #[derive(Clone, Copy)]
 pub struct Plain<T, const N: usize> {
     pub items: [T; N],

@@ -4,7 +4,8 @@ ghost use Rattle.std.specs.Prelude.{◌≡◌, ⊤};
 use std::alloc::AllocError;
 use std::marker::Model;
 
-// At most `N` elements. The places past the length hold `blank`, so that sequences with equal contents are equal records.
+// At most `N` elements, in an array with a length: a rule of the project, as an answer must not depend on free memory. The
+// places past the length hold `blank`, so that sequences with equal contents are equal records.
 #[derive(Copy)]
 pub struct Seq<T, const N: usize> {
     pub(crate) items: [T; N],

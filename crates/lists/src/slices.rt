@@ -1,4 +1,5 @@
-// Operations over slices of ordered elements.
+// Operations over slices of ordered elements. What makes a new list takes the blank of its unused places from the caller, since
+// a type of elements owes no default.
 ghost use Rattle.std.specs.Prelude.{◌≡◌, true, ◌++◌, length, if◌then◌else◌, Some, None};
 ghost use Rattle.lists.specs.Orders.{before};
 ghost use Rattle.lists.specs.Ranges.{between, in_range};

@@ -1,31 +1,15 @@
 -- Laws of the stack.
-use Rattle.std.specs.Prelude.{◌≡◌, ℕ, suc, ◌<◌, true, ltb, List, [], ◌∷◌, ◌++◌, reverse, length, ℤ, pos, Some, None, Option, nat_le, nat_lt, refl}
-use Rattle.std.proofs.Common.{sym, ap, ◌∙◌, arith}
-use Rattle.std.proofs.lemmas.List.{reverse-append, length-reverse}
+use Rattle.std.specs.Prelude.{◌≡◌, suc, ◌<◌, true, List, [], ◌∷◌, length, ℤ, pos, nat_le, nat_lt, refl}
+use Rattle.std.proofs.Common.{arith}
 use Rattle.std.proofs.lemmas.Bool.{cond_both, leb-true, le-leb, lt-ltb, ltb-true}
-use Rattle.lists.specs.Held.{Popped}
 use Rattle.service.specs.Doings.{done, refused}
 use Rattle.service.specs.Model.{Lawful}
 use Rattle.service.specs.declared.doing.Doing.{Doing}
 use Rattle.service.specs.declared.reply.Code.TheVariants.{Full}
 use Rattle.service.specs.declared.request.Operation.{Operation}
 use Rattle.service.specs.declared.request.Operation.TheVariants.{Put, Drop, Count, Push, Pop}
-use Rattle.tables.specs.Stacks.{most, push, stack, operate, fits, undoing, Newest}
+use Rattle.tables.specs.Stacks.{most, push, stack, operate, fits, undoing}
 use Rattle.tables.specs.Notes.{put_in}
-
-module _ {A : Type 0} where
-  -- a list with one more element behind it, seen from its end
-  pub reverse_push : (h : List A) (x : A) → reverse (h ++ x ∷ []) ≡ x ∷ reverse h
-  reverse_push h x = reverse-append h (x ∷ [])
-
-  -- a push of a sequence, seen from its end
-  pub pushed_reverse : (h left : List A) (x : A) (n : ℕ) → true ≡ nat_lt (length h) n → left ≡ h ++ x ∷ [] → (nat_lt (length (reverse h)) n ≡ true) × (reverse left ≡ x ∷ reverse h)
-  pushed_reverse h left x n fits is = (ap (λ k. ltb k n) (length-reverse h) ∙ sym fits, ap reverse is ∙ reverse_push h x)
-
--- taking the last value of a sequence off, seen from its end
-pub newest : (r : Option ℤ) (was left : List ℤ) → Popped r was left → Newest r (reverse was) (reverse left)
-newest (Some x) was left p = ap reverse p ∙ reverse_push left x
-newest None was left p = ap reverse p.0
 
 -- the law of the stack: a push has left a value to take off, and a pop a place to put one back
 pub lawful : Lawful stack

@@ -1,5 +1,5 @@
 -- The rules of the stack, on the list of its values, the newest first. Assumes nothing.
-use Rattle.std.specs.Prelude.{◌≡◌, ℕ, suc, Bool, true, false, cond, List, [], ◌∷◌, length, drop, ℤ, pos, Some, None, Option, nat_le, nat_lt}
+use Rattle.std.specs.Prelude.{ℕ, suc, Bool, true, false, cond, List, [], ◌∷◌, length, drop, ℤ, pos, nat_le, nat_lt}
 use Rattle.service.specs.Doings.{done, refused}
 use Rattle.service.specs.Model.{Model}
 use Rattle.service.specs.declared.doing.Doing.{Doing}
@@ -12,11 +12,6 @@ use Rattle.tables.specs.Notes.{put_in, taken_out, by_kind}
 -- how many values a stack can have
 abbrev pub most : ℕ
 most = 16
-
--- the newest value of a stack, if it has one, and what is left without it
-abbrev pub Newest : Option ℤ → List ℤ → List ℤ → Type 0
-Newest (Some value) values left = values ≡ value ∷ left
-Newest None values left = values ≡ []
 
 -- push: full at the most values, else the value is the newest, and the new depth is given
 abbrev pub push : List ℤ → ℤ → Doing (List ℤ)

@@ -6,7 +6,8 @@ ghost use Rattle.tables.specs.Rows.{same_row};
 use crate::row::Row;
 use lists::{Plain, Seq};
 
-// At most 32 rows, none of them twice, the newest last.
+// At most 32 rows, none of them twice, the newest last. Ghost fields, and no model: a service owes its law of every value, and of
+// a value with a model these two facts would not be known.
 #[derive(Clone, Copy)]
 pub struct Readings {
     pub(crate) rows: Seq<Row, 32>,

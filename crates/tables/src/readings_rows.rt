@@ -10,12 +10,6 @@ use crate::readings::{Readings, ReadingsRecord};
 use crate::row::Row;
 use lists::{Full, Seq, is_distinct};
 
-// What stands in the unused places of a table.
-pub(crate) const BLANK: Row = Row {
-    value: 0,
-    channel: 0,
-};
-
 impl Readings {
     // The rows, the newest last.
     pub fn rows(&self) -> &[Row]
@@ -76,7 +70,7 @@ impl Readings {
     pub(crate) fn of_record(plain: &ReadingsRecord) -> Option<Readings>
         ensures { elim result [ Some t ↦ (told plain.now ≡ true) × (tabled t ≡ take plain.now.len plain.now.items) | None ↦ told plain.now ≡ false ] }
     {
-        let rows = Seq::from_plain(plain, BLANK)?;
+        let rows = Seq::from_plain(plain, Row::default())?;
         if !is_distinct(rows.as_slice()) {
             return None;
         }

@@ -10,7 +10,6 @@ ghost use Rattle.std.proofs.Common.{rules, arith};
 
 use crate::notes::Undo;
 use crate::readings::{Readings, ReadingsRecord};
-use crate::readings_rows::BLANK;
 use crate::row::Row;
 use lists::{Seq, between, position};
 use service::{Code, Doing, Done, Note, Operation, Request, Service};
@@ -104,7 +103,7 @@ impl Service for Readings {
 
     fn clear() -> Readings {
         Readings {
-            rows: Seq::new(BLANK),
+            rows: Seq::new(Row::default()),
         }
     }
 

@@ -7,7 +7,7 @@ use lists::Order;
 use std::fmt;
 
 // A reading in thousandths, and the channel that it came from.
-#[derive(Clone, Copy, PartialEq, Eq, PartialOrd, Ord, Debug)]
+#[derive(Clone, Copy, PartialEq, Eq, PartialOrd, Ord, Debug, Default)]
 pub struct Row {
     pub value: i32,
     pub channel: u8,
@@ -19,7 +19,7 @@ impl Order for Row {
 }
 
 impl Row {
-    // The row that a channel number and a value name, if there is such a channel.
+    // No `TryFrom`, since two numbers name a row, and not one value: the row that a channel number and a value name, if there is such a channel.
     pub fn named(channel: i32, value: i32) -> Option<Row>
         ensures { result ≡ row_of channel value }
     {

@@ -3,7 +3,8 @@ ghost use Rattle.std.specs.Prelude.{◌≤◌, length};
 
 use lists::{Plain, Seq};
 
-// At most 16 values, the newest last.
+// At most 16 values, the newest last. A ghost field, and no model: a service owes its law of every value, and of a value with a
+// model this fact would not be known.
 #[derive(Clone, Copy)]
 pub struct Stack {
     pub(crate) values: Seq<i32, 16>,

@@ -13,9 +13,6 @@ use crate::stack::{Stack, StackRecord};
 use lists::{Full, Seq};
 use service::{Code, Doing, Done, Note, Operation, Request, Service};
 
-// What stands in the unused places of a stack.
-const BLANK: i32 = 0;
-
 impl Stack {
     // The stack with one more value, if there is a place for it.
     fn with(&self, value: i32) -> Result<Stack, Full>
@@ -98,7 +95,7 @@ impl Service for Stack {
 
     fn clear() -> Stack {
         Stack {
-            values: Seq::new(BLANK),
+            values: Seq::new(0),
         }
     }
 
@@ -115,7 +112,7 @@ impl Service for Stack {
     }
 
     fn from_record(plain: &StackRecord) -> Stack {
-        Seq::from_plain(plain, BLANK).map_or(Stack::clear(), |values| Stack { values })
+        Seq::from_plain(plain, 0).map_or(Stack::clear(), |values| Stack { values })
     }
 
     fn to_record(&self) -> StackRecord {
