@@ -36,13 +36,9 @@ mod tests {
     use std::test::Fail;
 
     fn made(rt: &impl Abort, res: Result<Seq<u8, 4>, Full>, expected: &[u8]) -> Result<(), Fail> {
-        match res {
-            Ok(made) => {
-                assert_eq!(rt; made.as_slice(), expected);
-                Ok(())
-            },
-            Err(Full) => Err(Fail::new("does not fit")),
-        }
+        let made = res.map_err(|_| Fail::new("does not fit"))?;
+        assert_eq!(rt; made.as_slice(), expected);
+        Ok(())
     }
 
     fn refused(rt: &impl Abort, res: Result<Seq<u8, 4>, Full>) {
