@@ -9,7 +9,7 @@ use lines::read;
 use std::{fmt, io};
 
 // How many lines were read, and how many were not.
-#[derive(Clone, Copy, PartialEq, Eq, Debug)]
+#[derive(Clone, Copy, PartialEq, Eq, Debug, Default)]
 pub struct Tally {
     pub read: usize,
     pub faulty: usize,
@@ -26,7 +26,7 @@ impl fmt::Display for Tally {
 pub fn take_all<D: Desk>(rt: &impl Print, text: &[u8], desk: &mut D) -> io::Result<Tally>
     ensures { IfOk result (λ tally. (tally ≡ tally_of text.now) × (D.state desk.new ≡ in_turn D.after (D.state desk.old) (lines_in text.now))) }
 {
-    let mut tally = Tally { read: 0, faulty: 0 };
+    let mut tally = Tally::default();
     for (at, line) in lines_of(text).enumerate() {
         let number = at + 1;
         match read(line) {

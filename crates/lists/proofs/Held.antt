@@ -1,9 +1,9 @@
 -- Laws of what a sequence of bounded length holds: its unused places, and what is left without its last element.
-use Rattle.std.proofs.Common.{◌≡◌, ℕ, suc, ◌+◌, ◌-◌, ◌<◌, ◌≤◌, true, false, ◌⊎◌, inl, inr, List, ◌∷◌, length, drop, set, replicate, Ok, Err, Result, IsOk, IsErr, ◌↔◌, sym, ap, ◌∙◌, arith, length-drop}
-use Rattle.std.proofs.lemmas.List.{drop-set, drop-set-lt, drop-drop, drop-replicate, length-set, length-take-le}
+use Rattle.std.proofs.Common.{◌≡◌, ℕ, suc, ◌+◌, ◌-◌, ◌<◌, ◌≤◌, true, false, ◌⊎◌, inl, inr, List, ◌∷◌, ◌++◌, length, take, drop, set, replicate, Ok, Err, Result, IsOk, IsErr, ◌↔◌, sym, ap, ap₂, ◌∙◌, arith, length-drop}
+use Rattle.std.proofs.lemmas.List.{drop-set, drop-set-lt, drop-drop, drop-replicate, length-set, length-take-le, drop_at, length-replicate, replicate-append-replicate}
 use Rattle.std.proofs.lemmas.Bool.{cases_lt, true≢false}
 use Rattle.std.proofs.lemmas.Slice.{drop-put_mid}
-use borrow.Rule.Slice.PartMut.{put_mid, mid_of, same_len_mid}
+use borrow.Rule.Slice.PartMut.{put_mid, mid_of, post_of, same_len_mid}
 use Rattle.lists.specs.Filling.{Filled}
 use Rattle.lists.specs.Held.{Contents, Made}
 
@@ -38,6 +38,18 @@ filled-put {T} {items} {len} {n} {blank} a k ys now f from more is room same =
       full = same_len_mid a k items ys same ∙ f.full;
       rest =
           drop-put_mid a k items ys now (omega arith) (omega (arith, f.full)) long ∙ ap (λ m. drop m items) (omega arith) ∙ sym (drop-drop (now - len) len items) ∙ ap (drop (now - len)) f.rest ∙ drop-replicate (now - len) (n - len) blank ∙ ap (λ m. replicate m blank) (omega arith);
+    }
+
+-- the places from `a` on, as far as they were in use, written over with the blank
+pub filled-cut : {T : Type 0} {items : List T} {len n : ℕ} {blank : T} (a : ℕ) (ys : List T) → Filled items len n blank → a ≤ len → ys ≡ replicate (len - a) blank → Filled (put_mid a (len - a) items ys) a n blank
+filled-cut {T} {items} {len} {n} {blank} a ys f less is =
+    let long : length ys ≡ length (mid_of a (len - a) items) = ap length is ∙ length-replicate (len - a) blank ∙ sym (length-take-le (len - a) (drop a items) (omega (arith, length-drop a items, f.full, f.within))) in
+    record {
+      within = omega (arith, f.within);
+      full = same_len_mid a (len - a) items ys long ∙ f.full;
+      rest =
+          drop_at (take a items) (ys ++ post_of a (len - a) items) a (length-take-le a items (omega (arith, f.full, f.within)))
+          ∙ ap₂ ◌++◌ is (drop-drop (len - a) a items ∙ ap (λ m. drop m items) (omega arith) ∙ f.rest) ∙ replicate-append-replicate (len - a) (n - len) blank ∙ ap (λ m. replicate m blank) (omega (arith, f.within));
     }
 
 -- what a refusal says of the lengths: there was no place for one more, or not for all

@@ -18,3 +18,8 @@ module _ {T : Type 0} (items : List T) (len n : ℕ) (blank : T) (f : Filled ite
   pub filled : places n (record { held = take len items; blank = blank }) ≡ items
   filled =
       ap (λ k. take len items ++ replicate (n - k) blank) front_length ∙ ap (λ l. take len items ++ l) (sym f.rest) ∙ take-append-drop len items
+
+-- Two sequences that hold the same over the same blank are the same in every place, and as long: no byte is left open.
+abbrev pub KnownByContents : Type 0 → ℕ → Type 0
+KnownByContents T n =
+    (items items' : List T) (len len' : ℕ) (blank : T) → Filled items len n blank → Filled items' len' n blank → take len items ≡ take len' items' → (items ≡ items') × (len ≡ len')

@@ -44,15 +44,17 @@ impl<T: Copy, const N: usize> Seq<T, N> {
         Some(last)
     }
 
-    // Keeps the first `len` elements, or all where there are no more. A loop, since a slice's `fill` promises of a `T: Copy`
-    // no more than that its clones stand there.
+    // Keeps the first `len` elements, or all where there are no more.
     pub fn truncate(&mut self, len: usize)
         ensures { self.new ≡ holding (take len self.old.held) self.old }
     {
-        while self.len > len {
-            // there is one to take off, as more than `len` are left
-            let _ = self.pop();
+        if len >= self.len {
+            return;
         }
+        let blanks = [self.blank; N];
+        let (all, blanks) = (&mut self.items[..], &blanks[..]);
+        all[len..self.len].copy_from_slice(&blanks[len..self.len]);
+        self.len = len;
     }
 
     // Puts all of `more` behind the others if they fit, and else nothing.

@@ -155,7 +155,7 @@ mod tests {
             Some([5, 6, 0])
         );
         assert_eq!(rt;
-            Seq::from_plain(&plain(3), 0).map(|told| told.to_plain().len),
+            Seq::from_plain(&plain(3), 0).map(|told| Plain::from(&told).len),
             Some(3)
         );
     }

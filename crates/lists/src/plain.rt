@@ -23,13 +23,16 @@ impl<T: Copy, const N: usize> Seq<T, N> {
         told.try_extend(items.get(..plain.len)?).unwrap();
         Some(told)
     }
+}
 
-    pub fn to_plain(&self) -> Plain<T, N>
-        ensures { result ≡ record { items = places N self.now; len = length self.now.held } }
-    {
+// A plain record of the sequence, as it lies in memory.
+impl<T: Copy, const N: usize> From<&Seq<T, N>> for Plain<T, N> {
+    ghost from_gives = { λ s plain. plain ≡ record { items = places N s.now; len = length s.now.held } };
+
+    fn from(told: &Seq<T, N>) -> Plain<T, N> {
         Plain {
-            items: self.items,
-            len: self.len,
+            items: told.items,
+            len: told.len,
         }
     }
 }

@@ -1,5 +1,6 @@
 // Reading a sequence of bounded length.
 ghost use Rattle.std.specs.Prelude.{◌≡◌, ◌≤◌, length, ◌==◌};
+ghost use Rattle.lists.specs.Filling.{KnownByContents};
 ghost use Rattle.lists.specs.Held.{places};
 ghost use Rattle.lists.specs.Membership.{member};
 
@@ -35,9 +36,10 @@ impl<T: Copy, const N: usize> Seq<T, N> {
         self.items
     }
 
-    // Two sequences with equal contents, over the same blank, are equal in every byte: the view of a sequence forgets none.
+    // Two sequences with equal contents, over the same blank, are equal, and so is every byte of the places and the length.
     pub fn known_by_contents(&self, other: &Seq<T, N>)
-        ensures { self.now.held ≡ other.now.held → self.now.blank ≡ other.now.blank → self.now ≡ other.now }
+        ensures bytes { KnownByContents T N }
+        ensures seen { self.now.held ≡ other.now.held → self.now.blank ≡ other.now.blank → self.now ≡ other.now }
     {}
 }
 

@@ -4,6 +4,8 @@ use Rattle.service.specs.declared.doing.Doing.{Doing}
 use Rattle.service.specs.declared.doing.Done.{Done}
 use Rattle.service.specs.declared.reply.Code.{Code}
 use Rattle.service.specs.declared.reply.Code.TheVariants as codes
+use Rattle.service.specs.Codes.{code_of}
+use Rattle.service.specs.declared.reply.NotDone.{NotDone}
 use Rattle.service.specs.declared.reply.Note.{Note}
 
 -- the note of kind 0, which undoes nothing
@@ -18,10 +20,10 @@ refused code s = record { after = s; reply = record { code = code; number = pos 
 abbrev pub done : {S : Type 0} → S → ℤ → Note → Doing S
 done s number note = record { after = s; reply = record { code = codes.Done; number = number }; note = note }
 
--- what comes of an operation: it is done, or a code says why not
-abbrev pub doing_of : {S : Type 0} → S → Result (Done S) Code → Doing S
+-- what comes of an operation: it is done, or not for a reason, which gives the code
+abbrev pub doing_of : {S : Type 0} → S → Result (Done S) NotDone → Doing S
 doing_of s (Ok d) = done d.after d.number d.note
-doing_of s (Err code) = refused code s
+doing_of s (Err why) = refused (code_of why) s
 
 -- a service's doing is one of its state: the same reply and note, and the state that is left
 abbrev pub Shows : {S T : Type 0} → (S → T) → Doing S → Doing T → Type 0

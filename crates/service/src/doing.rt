@@ -2,7 +2,7 @@
 ghost use Rattle.std.specs.Prelude.{◌≡◌};
 ghost use Rattle.service.specs.Doings.{nothing, refused, done, doing_of};
 
-use crate::reply::{Code, Note, Reply};
+use crate::reply::{Code, NotDone, Note, Reply};
 
 // The service as it is afterwards, the reply, and the note that undoes the doing.
 #[derive(Clone, Copy)]
@@ -25,12 +25,7 @@ impl Note {
     pub fn nothing() -> Note
         ensures { result ≡ nothing }
     {
-        Note {
-            kind: 0,
-            place: 0,
-            value: 0,
-            channel: 0,
-        }
+        Note::default()
     }
 }
 
@@ -62,13 +57,13 @@ impl<S> Doing<S> {
 }
 
 impl<S: Copy> Doing<S> {
-    // What comes of an operation on a service: it is done, or there is a code that says why not.
-    pub fn from_outcome(service: S, outcome: Result<Done<S>, Code>) -> Doing<S>
+    // What comes of an operation on a service: it is done, or not for a reason. No `From`, since it takes the service too.
+    pub fn from_outcome(service: S, outcome: Result<Done<S>, NotDone>) -> Doing<S>
         ensures { result ≡ doing_of service outcome }
     {
         match outcome {
             Ok(done) => Doing::done(done.after, done.number, done.note),
-            Err(code) => Doing::refused(service, code),
+            Err(why) => Doing::refused(service, Code::from(why)),
         }
     }
 }

@@ -12,5 +12,5 @@ mod request;
 
 pub use doing::{Doing, Done};
 pub use interface::Service;
-pub use reply::{Code, Note, Reply};
+pub use reply::{Code, NotDone, Note, Reply};
 pub use request::{Operation, Request};

@@ -1,7 +1,8 @@
 // What a service answers: a reply for the client, and a note by which the doing can be undone.
 ghost use Rattle.std.specs.Prelude.{◌≡◌};
-ghost use Rattle.service.specs.Codes.{code_number};
+ghost use Rattle.service.specs.Codes.{code_number, code_of};
 
+use std::error::Error;
 use std::fmt;
 
 // How a doing ended.
@@ -13,6 +14,29 @@ pub enum Code {
     Absent = 3,
     // Not an operation of this service, or a channel out of range.
     Foreign = 4,
+}
+
+// Why an operation is not done.
+#[derive(Clone, Copy, PartialEq, Eq, Debug)]
+pub enum NotDone {
+    Already,
+    Full,
+    Absent,
+    Foreign,
+}
+
+// The code of an operation that is not done.
+impl From<NotDone> for Code {
+    ghost from_gives = { λ why code. code ≡ code_of why };
+
+    fn from(why: NotDone) -> Code {
+        match why {
+            NotDone::Already => Code::Already,
+            NotDone::Full => Code::Full,
+            NotDone::Absent => Code::Absent,
+            NotDone::Foreign => Code::Foreign,
+        }
+    }
 }
 
 // The number by which the code is known.
@@ -34,7 +58,7 @@ pub struct Reply {
 
 // How to undo a doing. Kind 0 undoes nothing; what the other kinds and the fields mean is each service's own. Fields that a
 // kind does not use are 0. Stays flat, by a rule of the project: notes lie in records, and any byte may stand there as a kind.
-#[derive(Clone, Copy, PartialEq, Eq, Debug)]
+#[derive(Clone, Copy, PartialEq, Eq, Debug, Default)]
 pub struct Note {
     pub kind: u8,
     pub place: u8,
@@ -54,6 +78,16 @@ impl fmt::Display for Code {
         }
     }
 }
+
+// Why an operation is not done, in the words of its code.
+impl fmt::Display for NotDone {
+    fn fmt<W: fmt::Write>(&self, f: &mut fmt::Formatter<W>) -> fmt::Result {
+        let code = Code::from(*self);
+        write!(f, "{code}")
+    }
+}
+
+impl Error for NotDone {}
 
 // The code and the number.
 impl fmt::Display for Reply {

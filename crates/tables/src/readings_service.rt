@@ -11,8 +11,8 @@ ghost use Rattle.std.proofs.Common.{rules, arith};
 use crate::notes::Undo;
 use crate::readings::{Readings, ReadingsRecord};
 use crate::row::Row;
-use lists::{Seq, between, position};
-use service::{Code, Doing, Done, Note, Operation, Request, Service};
+use lists::{Plain, Seq, between, position};
+use service::{Doing, Done, NotDone, Note, Operation, Request, Service};
 
 impl Readings {
     // What is done when this is the table afterwards: its number of rows is given.
@@ -26,20 +26,20 @@ impl Readings {
         }
     }
 
-    fn put(&self, row: Row) -> Result<Done<Readings>, Code>
+    fn put(&self, row: Row) -> Result<Done<Readings>, NotDone>
         ensures { Shows tabled (doing_of self.now result) (put_row (tabled self.now) row) }
     {
         if self.rows.contains(&row) {
-            return Err(Code::Already);
+            return Err(NotDone::Already);
         }
-        let after = self.with(row).or(Err(Code::Full))?;
+        let after = self.with(row).or(Err(NotDone::Full))?;
         Ok(after.counted(Undo::PutIn))
     }
 
-    fn drop_row(&self, row: Row) -> Result<Done<Readings>, Code>
+    fn drop_row(&self, row: Row) -> Result<Done<Readings>, NotDone>
         ensures { Shows tabled (doing_of self.now result) (drop_row (tabled self.now) row) }
     {
-        let at = position(self.rows(), &row).ok_or(Code::Absent)?;
+        let at = position(self.rows(), &row).ok_or(NotDone::Absent)?;
         let Row { value, channel } = row;
         let undo = Undo::TakenOut {
             place: at as u8,
@@ -69,7 +69,7 @@ impl Readings {
     }
 
     // What comes of a request.
-    fn outcome(&self, request: Request) -> Result<Done<Readings>, Code>
+    fn outcome(&self, request: Request) -> Result<Done<Readings>, NotDone>
         ensures { Shows tabled (doing_of self.now result) (operate (tabled self.now) request.operation request.first request.second) }
     {
         let Request {
@@ -78,10 +78,10 @@ impl Readings {
             second,
         } = request;
         match operation {
-            Operation::Put => self.put(Row::named(first, second).ok_or(Code::Foreign)?),
-            Operation::Drop => self.drop_row(Row::named(first, second).ok_or(Code::Foreign)?),
+            Operation::Put => self.put(Row::named(first, second).ok_or(NotDone::Foreign)?),
+            Operation::Drop => self.drop_row(Row::named(first, second).ok_or(NotDone::Foreign)?),
             Operation::Count => Ok(self.count(request)),
-            Operation::Push | Operation::Pop => Err(Code::Foreign),
+            Operation::Push | Operation::Pop => Err(NotDone::Foreign),
         }
     }
 }
@@ -128,6 +128,6 @@ impl Service for Readings {
     }
 
     fn to_record(&self) -> ReadingsRecord {
-        self.rows.to_plain()
+        Plain::from(&self.rows)
     }
 }

@@ -10,8 +10,8 @@ ghost use Rattle.std.proofs.lemmas.Bool.{le-leb};
 
 use crate::notes::Undo;
 use crate::stack::{Stack, StackRecord};
-use lists::{Full, Seq};
-use service::{Code, Doing, Done, Note, Operation, Request, Service};
+use lists::{Full, Plain, Seq};
+use service::{Doing, Done, NotDone, Note, Operation, Request, Service};
 
 impl Stack {
     // The stack with one more value, if there is a place for it.
@@ -39,10 +39,10 @@ impl Stack {
         self.values.len()
     }
 
-    fn push(&self, value: i32) -> Result<Done<Stack>, Code>
+    fn push(&self, value: i32) -> Result<Done<Stack>, NotDone>
         ensures { Shows stacked (doing_of self.now result) (push (stacked self.now) value) }
     {
-        let after = self.with(value).or(Err(Code::Full))?;
+        let after = self.with(value).or(Err(NotDone::Full))?;
         Ok(Done {
             after,
             number: after.depth() as i32,
@@ -50,10 +50,10 @@ impl Stack {
         })
     }
 
-    fn pop(&self) -> Result<Done<Stack>, Code>
+    fn pop(&self) -> Result<Done<Stack>, NotDone>
         ensures { Shows stacked (doing_of self.now result) (pop (stacked self.now)) }
     {
-        let (value, after) = self.without().ok_or(Code::Absent)?;
+        let (value, after) = self.without().ok_or(NotDone::Absent)?;
         let undo = Undo::TakenOut {
             place: 0,
             value,
@@ -67,13 +67,13 @@ impl Stack {
     }
 
     // What comes of a request.
-    fn outcome(&self, request: Request) -> Result<Done<Stack>, Code>
+    fn outcome(&self, request: Request) -> Result<Done<Stack>, NotDone>
         ensures { Shows stacked (doing_of self.now result) (operate (stacked self.now) request.operation request.first) }
     {
         match request.operation {
             Operation::Push => self.push(request.first),
             Operation::Pop => self.pop(),
-            Operation::Put | Operation::Drop | Operation::Count => Err(Code::Foreign),
+            Operation::Put | Operation::Drop | Operation::Count => Err(NotDone::Foreign),
         }
     }
 }
@@ -116,6 +116,6 @@ impl Service for Stack {
     }
 
     fn to_record(&self) -> StackRecord {
-        self.values.to_plain()
+        Plain::from(&self.values)
     }
 }
