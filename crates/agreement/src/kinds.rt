@@ -44,7 +44,7 @@ pub struct Polling<T: Timing> {
 
 impl<T: Timing> Copy for Polling<T> {}
 
-// By hand, since the ghost field speaks of `T`.
+// By hand: a derive is refused where a struct has both a parameter and a ghost field.
 impl<T: Timing> Clone for Polling<T> {
     ghost is_clone = { λ it copy. copy ≡ it };
 

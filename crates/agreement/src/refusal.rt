@@ -2,18 +2,17 @@
 ghost use Rattle.std.specs.Prelude.{◌≡◌};
 ghost use Rattle.agreement.specs.Refusals.{number_of};
 
-use std::error::Error;
-use std::fmt;
+use thiserror::Error;
 
-#[derive(Clone, Copy, PartialEq, Eq, Debug)]
+#[derive(Clone, Copy, PartialEq, Eq, Debug, Error)]
 pub enum AgreementRefusal {
-    // The number of boards is not 1 to 7.
+    #[error("the number of boards is not 1 to 7")]
     Size = 1,
-    // There is no such epoch, or no such board.
+    #[error("there is no such epoch, or no such board")]
     Unknown = 4,
-    // The board has proposed in the epoch already.
+    #[error("the board has proposed in the epoch already")]
     Already = 8,
-    // Fewer than a majority have proposed in the epoch.
+    #[error("fewer than a majority have proposed in the epoch")]
     TooFew = 11,
 }
 
@@ -25,16 +24,3 @@ impl From<AgreementRefusal> for u8 {
         refusal as u8
     }
 }
-
-impl fmt::Display for AgreementRefusal {
-    fn fmt<W: fmt::Write>(&self, f: &mut fmt::Formatter<W>) -> fmt::Result {
-        f.write_str(match self {
-            AgreementRefusal::Size => "the number of boards is not 1 to 7",
-            AgreementRefusal::Unknown => "there is no such epoch, or no such board",
-            AgreementRefusal::Already => "the board has proposed in the epoch already",
-            AgreementRefusal::TooFew => "fewer than a majority have proposed in the epoch",
-        })
-    }
-}
-
-impl Error for AgreementRefusal {}
