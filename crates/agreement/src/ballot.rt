@@ -8,7 +8,7 @@ use crate::board_set::BoardSet;
 
 // The boards that have proposed in an epoch, and its decided set. That the set lies within them is a part of `Sound`, which the
 // poll keeps whole, and so no ghost field here.
-#[derive(Clone, Copy)]
+#[derive(Clone, Copy, Default)]
 pub(crate) struct Ballot {
     pub(crate) proposers: BoardSet,
     pub(crate) decided: Option<BoardSet>,
@@ -20,10 +20,7 @@ impl Ballot {
         ensures proposers { boards_of result.proposers ≡ nobody }
         ensures decided { result.decided ≡ None }
     {
-        Ballot {
-            proposers: BoardSet::empty(),
-            decided: None,
-        }
+        Ballot::default()
     }
 
     // The ballot with one proposer more.

@@ -10,7 +10,7 @@ pub(crate) const BOARDS: usize = 7;
 
 // Which of at most 7 boards: board c is in the set where place c holds true. An array, since an answer must not depend on
 // free memory.
-#[derive(Clone, Copy, PartialEq, Eq, Debug)]
+#[derive(Clone, Copy, PartialEq, Eq, Debug, Default)]
 pub struct BoardSet {
     on: [bool; BOARDS],
 }
@@ -20,9 +20,7 @@ impl BoardSet {
     pub fn empty() -> BoardSet
         ensures { boards_of result ≡ nobody }
     {
-        BoardSet {
-            on: [false; BOARDS],
-        }
+        BoardSet::default()
     }
 
     // The set with one board more; 7 and above are no boards, and change nothing.

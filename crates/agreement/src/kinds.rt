@@ -7,7 +7,8 @@ use crate::poll::Poll;
 use std::alloc::AllocError;
 use std::marker::PhantomData;
 
-// When a set becomes decided. A type, since a struct with a ghost field takes no `bool` as a const parameter.
+// When a set becomes decided. A type, since a struct with a ghost field takes no `bool` as a const parameter; a constant, and no
+// closure, since the kinds differ in one step alone.
 pub trait Timing {
     ghost AT_ONCE: { Bool };
 
