@@ -9,7 +9,7 @@ use std::array;
 pub(crate) const BOARDS: usize = 7;
 
 // Which of at most 7 boards: board c is in the set where place c holds true. An array, since an answer must not depend on
-// free memory.
+// free memory. No model: its value would be a function, which has no code.
 #[derive(Clone, Copy, PartialEq, Eq, Debug, Default)]
 pub struct BoardSet {
     on: [bool; BOARDS],

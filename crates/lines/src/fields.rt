@@ -6,7 +6,8 @@ ghost use Rattle.lines.specs.Fields.{Parted, fields, field_of, shown};
 use crate::marks::cut;
 use crate::part::Field;
 
-// The field with this number, counted from 0, or none where the line has fewer.
+// The field with this number, counted from 0, or none where the line has fewer. A `for` over the fields before it, since each
+// moves the offset.
 pub fn field(line: &[u8], number: usize) -> Option<Field<'_>>
     ensures parted { Parted line.now (fields line.now) }
     ensures finds { option_map shown result ≡ field_of line.now number }

@@ -11,7 +11,7 @@ pub(crate) enum Kind {
     Value,
 }
 
-// The kinds of the fields behind an operation's word, in their order.
+// The kinds of the fields behind an operation's word, in their order. A `match`, as each operation has its own.
 pub(crate) fn kinds(operation: Operation) -> &'static [Kind]
     ensures { result.now ≡ kinds operation }
 {

@@ -21,7 +21,7 @@ fn leading_digits(text: &[u8], most: usize) -> usize
         .count()
 }
 
-// The number that up to six digits write.
+// The number that up to six digits write. A loop, since a fold's step has to be safe after any number, and this one is not.
 fn written(digits: &[u8]) -> u32
     requires few { length digits.now ≤ 6 }
     requires each { prefix_len is_ascii_digit digits.now ≡ length digits.now }
@@ -94,7 +94,7 @@ impl Field<'_> {
     }
 
     // The value that the field writes, in signed thousandths: an optional minus, which covers the whole number,
-    // then 1 to 6 digits, then optionally a point and 1 to 3 digits.
+    // then 1 to 6 digits, then optionally a point and 1 to 3 digits. Two arms, since the minus turns the sign and moves the offset.
     pub fn value(self) -> Result<i32, NumberFault>
         ensures is { result ≡ value_of (shown self.entry) }
         ensures reads { Reads Value ValueForm (shown self.entry) result }

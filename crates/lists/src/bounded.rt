@@ -8,7 +8,7 @@ use crate::ordering::Order;
 use crate::seq::Seq;
 
 impl<T: Copy, const N: usize> Seq<T, N> {
-    // No elements: each place holds `blank`.
+    // No elements: each place holds `blank`, which the caller gives, since a type of elements owes no default.
     pub fn new(blank: T) -> Seq<T, N>
         ensures held { result.held ≡ [] }
         ensures blank { result.blank ≡ blank }

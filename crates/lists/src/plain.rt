@@ -14,7 +14,7 @@ pub struct Plain<T, const N: usize> {
 }
 
 impl<T: Copy, const N: usize> Seq<T, N> {
-    // The sequence of which a plain record tells, over `blank`: none where the record says that there are more than `N` elements.
+    // The sequence of which a plain record tells, over `blank`, and so no `TryFrom`: none where the record says that there are more than `N` elements.
     pub fn from_plain(plain: &Plain<T, N>, blank: T) -> Option<Seq<T, N>>
         ensures { SomeIff result (plain.now.len ≤ N) (record { held = take plain.now.len plain.now.items; blank = blank }) }
     {

@@ -29,7 +29,8 @@ impl<T: Copy, const N: usize> Seq<T, N> {
         &self.items[..self.len]
     }
 
-    // Every place of the sequence: its elements, and the blank in each place past them.
+    // Every place of the sequence: its elements, and the blank in each place past them. No `From`, since an array of a type
+    // parameter takes none from this crate.
     pub fn to_array(&self) -> [T; N]
         ensures { result ≡ places N self.now }
     {

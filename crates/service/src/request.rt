@@ -19,7 +19,7 @@ pub struct Request {
     pub second: i32,
 }
 
-// The request in words. Values are thousandths.
+// The request in words, which each operation has of its own. Values are thousandths.
 impl fmt::Display for Request {
     fn fmt<W: fmt::Write>(&self, f: &mut fmt::Formatter<W>) -> fmt::Result {
         let first = self.first;

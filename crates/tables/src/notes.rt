@@ -15,7 +15,7 @@ pub(crate) enum Undo {
     TakenOut { place: u8, value: i32, channel: u8 },
 }
 
-// A kind of note that neither service gives.
+// A kind of note that neither service gives: a byte, as it stands in the note.
 #[derive(Clone, Copy, PartialEq, Eq, Debug)]
 pub(crate) struct UnknownKind {
     kind: u8,
@@ -45,6 +45,7 @@ impl From<Undo> for Note {
     }
 }
 
+// The one place where the byte of a kind is read.
 impl TryFrom<Note> for Undo {
     type Error = UnknownKind;
 

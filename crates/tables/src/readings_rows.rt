@@ -66,7 +66,8 @@ impl Readings {
         Some(Readings { rows })
     }
 
-    // The table of which a record tells, if it tells of no row twice and of no more rows than there are places.
+    // The table of which a record tells, if it tells of no row twice and of no more rows than there are places. No `TryFrom`, since
+    // callers have `from_record`.
     pub(crate) fn of_record(plain: &ReadingsRecord) -> Option<Readings>
         ensures { elim result [ Some t ↦ (told plain.now ≡ true) × (tabled t ≡ take plain.now.len plain.now.items) | None ↦ told plain.now ≡ false ] }
     {

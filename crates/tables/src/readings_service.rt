@@ -68,7 +68,7 @@ impl Readings {
         }
     }
 
-    // What comes of a request.
+    // What comes of a request. A `match`, since which operations there are is fixed.
     fn outcome(&self, request: Request) -> Result<Done<Readings>, NotDone>
         ensures { Shows tabled (doing_of self.now result) (operate (tabled self.now) request.operation request.first request.second) }
     {

@@ -66,7 +66,7 @@ impl Stack {
         })
     }
 
-    // What comes of a request.
+    // What comes of a request. A `match`, since which operations there are is fixed.
     fn outcome(&self, request: Request) -> Result<Done<Stack>, NotDone>
         ensures { Shows stacked (doing_of self.now result) (operate (stacked self.now) request.operation request.first) }
     {

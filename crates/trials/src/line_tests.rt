@@ -20,6 +20,7 @@ fn reads(
     Ok(())
 }
 
+// A line that is not read, with its fault by numbers, as a report has them.
 fn faults(
     rt: &impl Abort,
     line: &[u8],

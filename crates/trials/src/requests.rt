@@ -15,6 +15,7 @@ pub(crate) fn put(channel: i32, value: i32) -> Request {
     ask(Operation::Put, channel, value)
 }
 
+// A note by its numbers, as it stands in a record.
 pub(crate) fn note(kind: u8, place: u8, value: i32, channel: u8) -> Note {
     Note {
         kind,
