@@ -22,7 +22,7 @@ POINTS = {
         r'^pub struct (First|Late|ReadingsRecord|StackRecord) ', r'^impl (First|Late) ', r'^impl Agreement for ',
         r'^(pub\(crate\) )?const (BLANK|MOST)\b', r'^struct Tally', r'^fn (say|say_all)\b',
         r'^fn (channel_at|value_at|positive|negative)\b', r'Operation::(Put|Drop) => match',
-        r'fn is_(same|before)\(&self, other: &(u8|Row)\)', r'^fn (refuses|withholds)\b',
+        r'fn is_(same|before)\(&self, other: &(u8|Row)\)', r'^fn withholds\b',
     ]),
     3: ('loops outside tests', [r'^\s*(for|while|loop)\b.*\{$']),
     4: ('equality, order, copies and conversions by hand', [
@@ -35,7 +35,7 @@ POINTS = {
         r'\(field: usize, (text|size):', r'blank: T\) ->',
     ]),
     6: ('arrays with a length beside them, and parallel arrays', [
-        r'^\s+(pub(\(crate\))? )?\w+: \[\w[^\]]*; \w+\],$',
+        r'^\s+(pub(\(crate\))? )?\w+: \[(bool|[iu]\d+|(?!None)[A-Z]\w*(<\w+>)?); \w+\],$',
     ]),
     7: ('switches on which step to run, and tables of functions', [
         r'match (request\.|self\.)?operation \{', r'match note\.kind', r': fn\(|dyn |else if is_word',
