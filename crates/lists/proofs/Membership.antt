@@ -1,5 +1,5 @@
 -- Laws of membership, of lists that hold no element twice, and of lists that share none.
-use Rattle.std.proofs.Common.{◌≡◌, ◌≤◌, Bool, true, false, not, ◌&&◌, ◌||◌, eqb, ◌⊎◌, List, [], ◌∷◌, ◌++◌, length, get_or, drop, Decides, sym, refl, ap, ap₂, ◌∙◌, inl, inr, arith}
+use Rattle.std.proofs.Common.{◌≡◌, Bool, true, false, ◌||◌, eqb, ◌⊎◌, List, [], ◌∷◌, ◌++◌, Decides, sym, refl, ap, ap₂, ◌∙◌, inl, inr, arith}
 use Rattle.std.proofs.lemmas.Bool.{both_ways, cases_Bool, or_parts, or_from, or_left, or_right, true≢false, eqb-true, eq-eqb, and_parts, and_from, not-true, not_from_false}
 use Rattle.std.proofs.lemmas.Bool.Decides.{nat_tests as ways}
 use Rattle.std.specs.List.{list_any}
@@ -16,11 +16,6 @@ module _ {A : Type 0} (same : A → A → Bool) where
   pub member_any : ((x y : A) → same x y ≡ same y x) → (x : A) (xs : List A) → list_any (λ y. same y x) xs ≡ member same x xs
   member_any symm x [] = refl
   member_any symm x (y ∷ xs) = ap₂ ◌||◌ (symm y x) (member_any symm x xs)
-
-  -- whether the first element of a list stands in it again, and whether one of the others does
-  pub distinct_first : (x : A) (xs : List A) → 1 ≤ length xs → x ≡ get_or xs 0 x → distinct same xs ≡ (not (member same x (drop 1 xs)) && distinct same (drop 1 xs))
-  distinct_first x [] h e = absurd (omega arith)
-  distinct_first x (y ∷ xs) h e = ap (λ z. not (member same z xs) && distinct same xs) (sym e)
 
   -- the test and the predicate say the same
   pub distinct_decides : (a : List A) → Decides (distinct same a) (Distinct same a)
