@@ -2,7 +2,7 @@
 ghost use Rattle.std.specs.Prelude.{◌≡◌, ◌≤◌, length, ⊤, IfOk};
 ghost use Rattle.std.specs.Iterator.{at_most};
 ghost use Rattle.intake.specs.declared.input.TheConstants.{MOST};
-ghost use Rattle.intake.specs.Inputs.{lines_in, Next};
+ghost use Rattle.intake.specs.Inputs.{Next};
 
 use lines::cut;
 use std::alloc::Global;

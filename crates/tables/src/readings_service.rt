@@ -26,6 +26,7 @@ impl Readings {
         }
     }
 
+    // The row goes last, if it is not there and there is a place for it.
     fn put(&self, row: Row) -> Result<Done<Readings>, NotDone>
         ensures { Shows tabled (doing_of self.now result) (put_row (tabled self.now) row) }
     {
@@ -36,6 +37,7 @@ impl Readings {
         Ok(after.counted(Undo::PutIn))
     }
 
+    // The row is taken out of its place, if it is there.
     fn drop_row(&self, row: Row) -> Result<Done<Readings>, NotDone>
         ensures { Shows tabled (doing_of self.now result) (drop_row (tabled self.now) row) }
     {
@@ -49,6 +51,7 @@ impl Readings {
         Ok(self.without(at).counted(undo))
     }
 
+    // The rows from one value to another are counted, whatever their channels.
     fn count(&self, window: Request) -> Done<Readings>
         ensures { Shows tabled (doing_of self.now (Ok result)) (count_rows (tabled self.now) window.first window.second) }
     {

@@ -1,6 +1,6 @@
 // A row of the readings table.
 ghost use Rattle.std.specs.Prelude.{◌≡◌};
-ghost use Rattle.tables.specs.Rows.{same_row, before_row, row_of};
+ghost use Rattle.tables.specs.Rows.{row_of};
 ghost use Rattle.std.proofs.Common.{rules};
 
 use lists::Order;
@@ -19,7 +19,7 @@ impl Order for Row {
 }
 
 impl Row {
-    // No `TryFrom`, since two numbers name a row, and not one value: the row that a channel number and a value name, if there is such a channel.
+    // The row that a channel number and a value name, if there is such a channel. No `TryFrom`, since two numbers name it.
     pub fn named(channel: i32, value: i32) -> Option<Row>
         ensures { result ≡ row_of channel value }
     {

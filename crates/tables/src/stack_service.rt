@@ -39,6 +39,7 @@ impl Stack {
         self.values.len()
     }
 
+    // The value goes on top, if there is a place for it.
     fn push(&self, value: i32) -> Result<Done<Stack>, NotDone>
         ensures { Shows stacked (doing_of self.now result) (push (stacked self.now) value) }
     {
@@ -50,6 +51,7 @@ impl Stack {
         })
     }
 
+    // The value on top is taken off, if there is one.
     fn pop(&self) -> Result<Done<Stack>, NotDone>
         ensures { Shows stacked (doing_of self.now result) (pop (stacked self.now)) }
     {

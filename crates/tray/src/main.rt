@@ -4,8 +4,7 @@
 #![tactic(auto)]
 
 ghost use Rattle.std.specs.Prelude.{◌≡◌, List, IfOk};
-ghost use Rattle.intake.specs.Inputs.{lines_in};
-ghost use Rattle.intake.specs.Tallies.{tally_of, in_turn};
+ghost use Rattle.intake.specs.Tallies.{tally_of};
 ghost use Rattle.tables.specs.Readings.{readings};
 ghost use Rattle.tables.specs.ReadingsRecords.{tabled};
 ghost use Rattle.tables.specs.declared.row.Row.{Row};
