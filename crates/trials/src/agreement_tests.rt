@@ -126,14 +126,20 @@ fn each_kind_asked_once(rt: HostRuntime) -> Result<(), Fail> {
     refuses(&rt, ask_all(&mut late, 7, 16), 4)
 }
 
+// The set of epoch 2 is answered before and after board 1 has proposed in an epoch, there or elsewhere.
+fn stays<A: Agreement>(rt: &impl Abort, a: &mut A, later: usize) -> Result<(), Fail> {
+    let asked = ask_twice(a, 2, later, 1);
+    let (before, after) = asked.map_err(|_| Fail::new("a learn that should be accepted is not"))?;
+    same(rt, before, boards(&[0, 2]))?;
+    same(rt, after, before)
+}
+
 fn asked_twice<A: Agreement>(rt: &impl Abort, a: &mut A) -> Result<(), Fail> {
     accepts(a.clear(3))?;
     accepts(a.propose(2, 2))?;
     accepts(a.propose(2, 0))?;
-    let asked = ask_twice(a, 2, 2, 1);
-    let (before, after) = asked.map_err(|_| Fail::new("a learn that should be accepted is not"))?;
-    same(rt, before, boards(&[0, 2]))?;
-    same(rt, after, before)
+    stays(rt, a, 2)?;
+    stays(rt, a, 1)
 }
 
 #[test]
