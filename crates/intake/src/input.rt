@@ -1,8 +1,8 @@
 // An input, and its lines.
-ghost use Rattle.std.specs.Prelude.{◌≡◌, ◌≤◌, length, ⊤, IfOk};
+ghost use Rattle.std.specs.Prelude.{◌≡◌, ◌≤◌, length, ⊤, IfOk, IfSome};
 ghost use Rattle.std.specs.Iterator.{at_most};
 ghost use Rattle.intake.specs.declared.input.TheConstants.{MOST};
-ghost use Rattle.intake.specs.Inputs.{Next};
+ghost use Rattle.intake.specs.Inputs.{Next, TakenWhole};
 
 use lines::cut;
 use std::alloc::Global;
@@ -23,11 +23,15 @@ pub enum InputError {
 }
 
 // The whole of an input, if it is not over the most bytes.
-pub fn read_input(alloc: Global, input: impl Read + Drop) -> Result<Vec<u8>, InputError>
-    ensures { IfOk result (λ text. length text.items ≤ MOST) }
+pub fn read_input<R: Read + Drop>(alloc: Global, input: R) -> Result<Vec<u8>, InputError>
+    ensures few { IfOk result (λ text. length text.items ≤ MOST) }
+    ensures whole { IfSome (R.remaining input) (TakenWhole MOST result) }
 {
     let mut text = Vec::new(alloc);
-    input.take(MOST + 1).read_to_end(&mut text)?;
+    input
+        .take(MOST + 1)
+        .read_to_end(&mut text)
+        .map_err(InputError::Io)?;
     if text.len() as u64 > MOST {
         return Err(InputError::TooLong);
     }
