@@ -9,7 +9,7 @@ use Rattle.lists.specs.Places.{Taken}
 
 module _ {T : Type 0} where
   -- the element that stood at a place, put back there
-  inserted_removed : (h : List T) (at : ℕ) (x : T) → at < length h → x ≡ get_or h at x → insert (remove h at) at x ≡ h
+  pub inserted_removed : (h : List T) (at : ℕ) (x : T) → at < length h → x ≡ get_or h at x → insert (remove h at) at x ≡ h
   inserted_removed [] at x lt e = absurd (omega arith)
   inserted_removed (y ∷ h) zero x lt e = ap (λ z. z ∷ h) e
   inserted_removed (y ∷ h) (suc at) x lt e = ap (λ l. y ∷ l) (inserted_removed h at x (omega arith) e)

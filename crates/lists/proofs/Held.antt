@@ -1,11 +1,42 @@
 -- Laws of what a sequence of bounded length holds: its unused places, and what is left without its last element.
 use Rattle.std.proofs.Common.{◌≡◌, ℕ, suc, ◌+◌, ◌-◌, ◌<◌, ◌≤◌, true, false, ◌⊎◌, inl, inr, List, ◌∷◌, ◌++◌, length, take, drop, set, replicate, Ok, Err, Result, IsOk, IsErr, ◌↔◌, sym, ap, ap₂, ◌∙◌, arith, length-drop}
+use mathlib.Core.List.{is_set}
+use mathlib.Core.HLevel.{is_prop→PathP}
+use native.Mathlib.Nat.{ℕ_set}
+use native.Mathlib.Bridge.{le_prop}
 use Rattle.std.proofs.lemmas.List.{drop-set, drop-set-lt, drop-drop, drop-replicate, length-set, length-take-le, drop_at, length-replicate, replicate-append-replicate}
 use Rattle.std.proofs.lemmas.Bool.{cases_lt, true≢false}
 use Rattle.std.proofs.lemmas.Slice.{drop-put_mid}
 use borrow.Rule.Slice.PartMut.{put_mid, mid_of, post_of, same_len_mid}
-use Rattle.lists.specs.Filling.{Filled}
-use Rattle.lists.specs.Held.{Contents, Made}
+use Rattle.lists.specs.declared.seq.Seq.{Seq}
+use Rattle.lists.specs.Filling.{Filled, filled}
+use Rattle.lists.specs.Held.{held, places, Made}
+
+-- a sequence's places are filled up behind its length
+pub filled_of : {T : Type 0} {n : ℕ} (s : Seq T n) → Filled s.items s.len n s.blank
+filled_of s = record { within = s.within; full = s.full; rest = s.rest }
+
+pub held-length : {T : Type 0} {n : ℕ} (s : Seq T n) → length (held s) ≡ s.len
+held-length s = length-take-le s.len s.items (omega (arith, s.full, s.within))
+
+-- a sequence holds at most its capacity
+pub held-within : {T : Type 0} {n : ℕ} (s : Seq T n) → length (held s) ≤ n
+held-within s = omega (arith, held-length s, s.within)
+
+-- sequences with equal contents over one blank are one record
+pub held-known : {T : Type 0} {n : ℕ} → IsSet T → (a b : Seq T n) → held a ≡ held b → a.blank ≡ b.blank → a ≡ b
+held-known {T} {n} s a b t e =
+    let items : a.items ≡ b.items =
+    sym (filled a.items a.len n a.blank (filled_of a)) ∙ (λ i. places n (record { held = t i; blank = e i })) ∙ filled b.items b.len n b.blank (filled_of b) in
+    let len : a.len ≡ b.len = sym (held-length a) ∙ ap length t ∙ held-length b in
+    λ i. record {
+      items = items i;
+      len = len i;
+      blank = e i;
+      within = is_prop→PathP (λ j. len j ≤ n) (λ j. le_prop) a.within b.within i;
+      full = is_prop→PathP (λ j. length (items j) ≡ n) (λ j. ℕ_set _ _) a.full b.full i;
+      rest = is_prop→PathP (λ j. drop (len j) (items j) ≡ replicate (n - len j) (e j)) (λ j. is_set s _ _) a.rest b.rest i;
+    }
 
 -- the unused places after one more element, and after one less
 pub filled-push : {T : Type 0} {items : List T} {len n : ℕ} {blank : T} (x : T) → Filled items len n blank → len < n → Filled (set items len x) (len + 1) n blank
@@ -64,7 +95,7 @@ pub full-extend : {a n : ℕ} → (a ≤ n → false ≡ true) → n < a
 full-extend {a} {n} h = let over : n + 1 ≤ a = full-push (λ lt. h (omega arith)) in omega arith
 
 -- a refusal passed on: a list that is too long for a new sequence, and a change that does not fit
-pub refused-made : {T E : Type 0} {n : ℕ} (r : Result (Contents T) E) (xs : List T) (blank : T) → IsErr r → n < length xs → Made n r xs blank
+pub refused-made : {T E : Type 0} {n : ℕ} (r : Result (Seq T n) E) (xs : List T) (blank : T) → IsErr r → n < length xs → Made n r xs blank
 refused-made (Ok s) xs blank e long = absurd (true≢false (sym e))
 refused-made (Err x) xs blank e long = long
 

@@ -1,7 +1,7 @@
 -- One turn of a loop over a list, which reads the element x at the place i.
-use Rattle.std.proofs.Common.{◌≡◌, ℕ, ◌+◌, ◌<◌, Bool, false, List, [], ◌∷◌, ◌++◌, length, get_or, drop, sym, ap, ◌∙◌, arith}
+use Rattle.std.proofs.Common.{◌≡◌, ℕ, ◌+◌, ◌<◌, Bool, true, false, List, [], ◌∷◌, ◌++◌, length, get_or, drop, sym, ap, ◌∙◌, arith}
 use Rattle.std.proofs.lemmas.List.{at_drop_more, length_push}
-use Rattle.std.proofs.lemmas.Bool.{cond-false}
+use Rattle.std.proofs.lemmas.Bool.{cond-true, cond-false}
 use Rattle.lists.specs.Membership.{member}
 use Rattle.lists.proofs.Merging.{adding, adding-length}
 
@@ -14,6 +14,11 @@ module _ {A : Type 0} (same : A → A → Bool) (so xs : List A) (i : ℕ) (x : 
   pub adding_new : member same x so ≡ false → adding same (so ++ x ∷ []) (drop (i + 1) xs) ≡ adding same so (drop i xs)
   adding_new t =
       ap (λ l. adding same l (drop (i + 1) xs)) (sym (cond-false (member same x so) so (so ++ x ∷ []) t)) ∙ sym (left-more (adding same so) xs i x h e)
+
+  -- one that is there already goes nowhere
+  pub adding_old : member same x so ≡ true → adding same so (drop (i + 1) xs) ≡ adding same so (drop i xs)
+  adding_old t =
+      ap (λ l. adding same l (drop (i + 1) xs)) (sym (cond-true (member same x so) so (so ++ x ∷ []) t)) ∙ sym (left-more (adding same so) xs i x h e)
 
   pub adding-over : member same x so ≡ false → length so < length (adding same so (drop i xs))
   adding-over t =

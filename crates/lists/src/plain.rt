@@ -1,7 +1,7 @@
 // A sequence as a plain record, which may say anything.
-ghost use Rattle.std.specs.Prelude.{◌≡◌, ◌≤◌, length, take};
+ghost use Rattle.std.specs.Prelude.{◌≡◌, ◌≤◌, length, take, option_map};
 ghost use Rattle.std.specs.Option.{SomeIff};
-ghost use Rattle.lists.specs.Held.{places};
+ghost use Rattle.lists.specs.Held.{held, seen, places};
 
 use crate::seq::Seq;
 
@@ -16,7 +16,7 @@ pub struct Plain<T, const N: usize> {
 impl<T: Copy, const N: usize> Seq<T, N> {
     // The sequence of which a plain record tells, over `blank`, and so no `TryFrom`: none where the record says that there are more than `N` elements.
     pub fn from_plain(plain: &Plain<T, N>, blank: T) -> Option<Seq<T, N>>
-        ensures { SomeIff result (plain.now.len ≤ N) (record { held = take plain.now.len plain.now.items; blank = blank }) }
+        ensures { SomeIff (option_map seen result) (plain.now.len ≤ N) (record { held = take plain.now.len plain.now.items; blank = blank }) }
     {
         let items = &plain.items[..];
         let mut told = Seq::new(blank);
@@ -27,7 +27,7 @@ impl<T: Copy, const N: usize> Seq<T, N> {
 
 // A plain record of the sequence, as it lies in memory.
 impl<T: Copy, const N: usize> From<&Seq<T, N>> for Plain<T, N> {
-    ghost from_gives = { λ s plain. plain ≡ record { items = places N s.now; len = length s.now.held } };
+    ghost from_gives = { λ s plain. plain ≡ record { items = places N (seen s.now); len = length (held s.now) } };
 
     fn from(told: &Seq<T, N>) -> Plain<T, N> {
         Plain {

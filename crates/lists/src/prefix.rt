@@ -7,16 +7,16 @@ use crate::ordering::Order;
 
 // How many elements the two lists have in common at their beginning.
 fn common_length<T: Order>(a: &[T], b: &[T]) -> usize
-    ensures is { result ≡ length (common T.eq a.now b.now) }
+    ensures is { result ≡ length (common T.Order.same a.now b.now) }
     ensures left { result ≤ length a.now }
     ensures right { result ≤ length b.now }
 {
-    a.iter().zip(b).take_while(|(x, y)| x == y).count()
+    a.iter().zip(b).take_while(|(x, y)| x.is_same(*y)).count()
 }
 
 // The longest list that begins both, as a part of the first.
 pub fn common_beginning<'a, T: Order>(a: &'a [T], b: &[T]) -> &'a [T]
-    ensures is { result.now ≡ common T.eq a.now b.now }
+    ensures is { result.now ≡ common T.Order.same a.now b.now }
     ensures longest { Longest a.now b.now result.now }
 {
     &a[..common_length(a, b)]
@@ -35,7 +35,7 @@ pub struct Parts<'o, 'd, T> {
 pub fn split<'o, 'd, T: Order>(opened: &'o [T], decided: &'d [T]) -> Parts<'o, 'd, T>
     ensures is { IsSplit opened.now decided.now result.good.now result.bad.now result.new.now }
     ensures only { (good bad new : List T) → IsSplit opened.now decided.now good bad new → (good ≡ result.good.now) × (bad ≡ result.bad.now) × (new ≡ result.new.now) }
-    ensures good { result.good.now ≡ common T.eq opened.now decided.now }
+    ensures good { result.good.now ≡ common T.Order.same opened.now decided.now }
 {
     let n = common_length(opened, decided);
     let (good, bad) = opened.split_at(n);

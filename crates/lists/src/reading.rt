@@ -1,7 +1,7 @@
 // Reading a sequence of bounded length.
 ghost use Rattle.std.specs.Prelude.{◌≡◌, ◌≤◌, length, ◌==◌};
 ghost use Rattle.lists.specs.Filling.{KnownByContents};
-ghost use Rattle.lists.specs.Held.{places};
+ghost use Rattle.lists.specs.Held.{held, seen, places};
 ghost use Rattle.lists.specs.Membership.{member};
 
 use crate::ordering::Order;
@@ -10,21 +10,21 @@ use crate::slices::contains;
 
 impl<T: Copy, const N: usize> Seq<T, N> {
     pub fn len(&self) -> usize
-        ensures is { result ≡ length self.now.held }
+        ensures is { result ≡ length (held self.now) }
         ensures within { result ≤ N }
     {
         self.len
     }
 
     pub fn is_empty(&self) -> bool
-        ensures { result ≡ (length self.now.held == 0) }
+        ensures { result ≡ (length (held self.now) == 0) }
     {
         self.as_slice().is_empty()
     }
 
     pub fn as_slice(&self) -> &[T]
-        ensures is { result.now ≡ self.now.held }
-        ensures within { length self.now.held ≤ N }
+        ensures is { result.now ≡ held self.now }
+        ensures within { length (held self.now) ≤ N }
     {
         &self.items[..self.len]
     }
@@ -32,7 +32,7 @@ impl<T: Copy, const N: usize> Seq<T, N> {
     // Every place of the sequence: its elements, and the blank in each place past them. No `From`, since an array of a type
     // parameter takes none from this crate.
     pub fn to_array(&self) -> [T; N]
-        ensures { result ≡ places N self.now }
+        ensures { result ≡ places N (seen self.now) }
     {
         self.items
     }
@@ -40,13 +40,13 @@ impl<T: Copy, const N: usize> Seq<T, N> {
     // Two sequences with equal contents, over the same blank, are equal, and so is every byte of the places and the length.
     pub fn known_by_contents(&self, other: &Seq<T, N>)
         ensures bytes { KnownByContents T N }
-        ensures seen { self.now.held ≡ other.now.held → self.now.blank ≡ other.now.blank → self.now ≡ other.now }
+        ensures seen { held self.now ≡ held other.now → self.now.blank ≡ other.now.blank → self.now ≡ other.now }
     {}
 }
 
 impl<T: Order, const N: usize> Seq<T, N> {
     pub fn contains(&self, x: &T) -> bool
-        ensures { result ≡ member T.eq x.now self.now.held }
+        ensures { result ≡ member T.Order.same x.now (held self.now) }
     {
         contains(self.as_slice(), x)
     }

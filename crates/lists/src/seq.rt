@@ -1,36 +1,21 @@
 // A sequence of bounded length, as it lies in memory.
-ghost use Rattle.std.specs.Prelude.{◌≡◌, ⊤};
+ghost use Rattle.std.specs.Prelude.{◌≡◌, ◌-◌, ◌≤◌, length, drop, replicate, ⊤};
 
 use std::alloc::AllocError;
-use std::marker::Model;
 
 // At most `N` elements, in an array with a length: a rule of the project, as an answer must not depend on free memory. The
-// places past the length hold `blank`, so that sequences with equal contents are equal records.
-#[derive(Copy)]
+// places past the length hold `blank`, so that sequences with equal contents are equal records. Ghost fields, and no model: of each
+// value it is known what they say, and a struct that holds one is copied as any other.
 pub struct Seq<T, const N: usize> {
     pub(crate) items: [T; N],
     pub(crate) len: usize,
     pub(crate) blank: T,
+    ghost within: { len ≤ N },
+    ghost full: { length items ≡ N },
+    ghost rest: { drop len items ≡ replicate (N - len) blank },
 }
 
-// Contracts see the elements and the blank. The two give every byte back.
-impl<T, const N: usize> Model for Seq<T, N> {
-    ghost use Rattle.std.specs.Prelude.{length, take};
-    ghost use Rattle.lists.specs.Held.{Contents, places};
-    ghost use Rattle.lists.specs.Filling.{Filled, front_length, filled};
-
-    ghost Value = { Contents T };
-
-    ghost view = { λ s. record { held = take s.len s.items; blank = s.blank } };
-
-    ghost invariant = { λ s. Filled s.items s.len N s.blank };
-
-    ghost inverse = { λ c. record { items = places N c; len = length c.held; blank = c.blank } };
-
-    ghost inverse_ok = { λ s f. λ i. record { items = filled s.items s.len N s.blank f i; len = front_length s.items s.len N s.blank f i; blank = s.blank } };
-}
-
-// By hand: a derived one would clone for every `T: Clone`, whose clones need not keep the invariant.
+// By hand, and `Copy` too: a derive is refused where a struct has both a parameter and a ghost field.
 impl<T: Copy, const N: usize> Clone for Seq<T, N> {
     ghost is_clone = { λ x y. y ≡ x };
 
@@ -40,3 +25,5 @@ impl<T: Copy, const N: usize> Clone for Seq<T, N> {
         Ok(*self)
     }
 }
+
+impl<T: Copy, const N: usize> Copy for Seq<T, N> {}

@@ -1,7 +1,6 @@
 // Operations over slices of ordered elements. What makes a new list takes the blank of its unused places from the caller, since
 // a type of elements owes no default.
 ghost use Rattle.std.specs.Prelude.{◌≡◌, true, ◌++◌, length, if◌then◌else◌, Some, None};
-ghost use Rattle.lists.specs.Orders.{before};
 ghost use Rattle.lists.specs.Ranges.{between, in_range};
 ghost use Rattle.lists.specs.Held.{Made};
 ghost use Rattle.lists.specs.Membership.{member, distinct};
@@ -15,22 +14,22 @@ use crate::seq::Seq;
 
 // Whether `x` stands in the list.
 pub fn contains<T: Order>(list: &[T], x: &T) -> bool
-    ensures { result ≡ member T.eq x.now list.now }
+    ensures { result ≡ member T.Order.same x.now list.now }
 {
-    list.contains(x)
+    list.iter().any(|y| x.is_same(y))
 }
 
 // The place where `x` first stands in the list.
 pub fn position<T: Order>(list: &[T], x: &T) -> Option<usize>
-    ensures is { result ≡ (if member T.eq x.now list.now then Some (place T.eq x.now list.now) else None) }
+    ensures is { result ≡ (if member T.Order.same x.now list.now then Some (place T.Order.same x.now list.now) else None) }
     ensures within { PlaceIn result (length list.now) }
 {
-    list.iter().position(|y| x == y)
+    list.iter().position(|y| x.is_same(y))
 }
 
 // Whether no element stands twice.
 pub fn is_distinct<T: Order>(list: &[T]) -> bool
-    ensures { result ≡ distinct T.eq list.now }
+    ensures { result ≡ distinct T.Order.same list.now }
 {
     let mut left = list;
     while let [x, rest @ ..] = left {
@@ -54,7 +53,7 @@ pub fn join<T: Copy, const N: usize>(a: &[T], b: &[T], blank: T) -> Result<Seq<T
 
 // The elements of `a` that are not in `b`, in order; refused where they do not fit.
 pub fn without<T: Order, const N: usize>(a: &[T], b: &[T], blank: T) -> Result<Seq<T, N>, Full>
-    ensures { Made N result (without T.eq a.now b.now) blank }
+    ensures { Made N result (without T.Order.same a.now b.now) blank }
 {
     let mut left = Seq::new(blank);
     for x in a {
@@ -67,7 +66,7 @@ pub fn without<T: Order, const N: usize>(a: &[T], b: &[T], blank: T) -> Result<S
 
 // The elements of both lists, each where it first appears; refused where they do not fit.
 pub fn merge<T: Order, const N: usize>(a: &[T], b: &[T], blank: T) -> Result<Seq<T, N>, Full>
-    ensures { Made N result (merge T.eq a.now b.now) blank }
+    ensures { Made N result (merge T.Order.same a.now b.now) blank }
 {
     let mut all = Seq::new(blank);
     all.try_merge(a)?;
@@ -77,15 +76,15 @@ pub fn merge<T: Order, const N: usize>(a: &[T], b: &[T], blank: T) -> Result<Seq
 
 // Whether `x` is neither before `low` nor behind `high`.
 fn is_between<T: Order>(x: &T, low: &T, high: &T) -> bool
-    ensures { result ≡ in_range (before T.cmp) low.now high.now x.now }
+    ensures { result ≡ in_range T.Order.before low.now high.now x.now }
 {
     !x.is_before(low) && !high.is_before(x)
 }
 
 // How many elements of the list are from `low` to `high`, both counted: none where `low` exceeds `high`.
 pub fn between<T: Order>(list: &[T], low: &T, high: &T) -> usize
-    ensures is { result ≡ between (before T.cmp) low.now high.now list.now }
-    ensures none { before T.cmp high.now low.now ≡ true → result ≡ 0 }
+    ensures is { result ≡ between T.Order.before low.now high.now list.now }
+    ensures none { T.Order.before high.now low.now ≡ true → result ≡ 0 }
 {
     list.iter().filter(|x| is_between(*x, low, high)).count()
 }

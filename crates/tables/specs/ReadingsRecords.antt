@@ -1,5 +1,6 @@
 -- The state of a readings table, and the state that a plain record of one means. Assumes nothing.
 use Rattle.std.specs.Prelude.{Bool, cond, ◌&&◌, List, [], take, nat_le}
+use Rattle.lists.specs.Held.{held}
 use Rattle.lists.specs.Membership.{distinct}
 use Rattle.lists.specs.declared.plain.Plain.{Plain}
 use Rattle.tables.specs.Readings.{most}
@@ -9,7 +10,7 @@ use Rattle.tables.specs.declared.row.Row.{Row}
 
 -- the rows of a table, the newest last
 abbrev pub tabled : Readings → List Row
-tabled t = t.rows.held
+tabled t = held t.rows
 
 -- whether a record tells of a table: it has as many places as it counts rows, and holds none of these twice
 abbrev pub told : Plain Row 32 → Bool

@@ -1,6 +1,7 @@
 // The readings table, and a table as it lies in a bank.
 ghost use Rattle.std.specs.Prelude.{◌≡◌, ◌≤◌, true, length};
 ghost use Rattle.lists.specs.Membership.{distinct};
+ghost use Rattle.lists.specs.Held.{held};
 ghost use Rattle.tables.specs.Rows.{same_row};
 
 use crate::row::Row;
@@ -11,8 +12,8 @@ use lists::{Plain, Seq};
 #[derive(Clone, Copy)]
 pub struct Readings {
     pub(crate) rows: Seq<Row, 32>,
-    ghost few: { length rows.held ≤ 32 },
-    ghost apart: { distinct same_row rows.held ≡ true },
+    ghost few: { length (held rows) ≤ 32 },
+    ghost apart: { distinct same_row (held rows) ≡ true },
 }
 
 // Rows of which nothing is known.

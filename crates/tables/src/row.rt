@@ -1,6 +1,6 @@
 // A row of the readings table.
 ghost use Rattle.std.specs.Prelude.{◌≡◌};
-ghost use Rattle.tables.specs.Rows.{row_of};
+ghost use Rattle.tables.specs.Rows.{same_row, before_row, row_of};
 ghost use Rattle.std.proofs.Common.{rules};
 
 use lists::Order;
@@ -15,7 +15,21 @@ pub struct Row {
 
 // Rows are compared as derived: by value, and by channel where the values are equal.
 impl Order for Row {
+    ghost same = { same_row };
+
+    ghost before = { before_row };
+
     ghost tells = { Prim.search rules };
+
+    ghost ordered = { Prim.search rules };
+
+    fn is_same(&self, other: &Row) -> bool {
+        self == other
+    }
+
+    fn is_before(&self, other: &Row) -> bool {
+        self < other
+    }
 }
 
 impl Row {

@@ -7,6 +7,8 @@ ghost use Rattle.tables.specs.StackLaws;
 ghost use Rattle.std.proofs.Common.{arith};
 ghost use Rattle.std.proofs.lemmas.List.{length-reverse};
 ghost use Rattle.std.proofs.lemmas.Bool.{le-leb};
+ghost use Rattle.lists.specs.Held.{held};
+ghost use Rattle.lists.proofs.Held.{held-within};
 
 use crate::notes::Undo;
 use crate::stack::{Stack, StackRecord};
@@ -93,7 +95,7 @@ impl Service for Stack {
 
     ghost lawful = { StackLaws.lawful };
 
-    ghost sound = { λ x. le-leb _ 16 (omega (arith, length-reverse x.values.held, x.few)) };
+    ghost sound = { λ x. le-leb _ 16 (omega (arith, length-reverse (held x.values), held-within x.values)) };
 
     fn clear() -> Stack {
         Stack {

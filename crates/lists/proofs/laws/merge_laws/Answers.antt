@@ -3,7 +3,7 @@ use Rattle.lists.proofs.laws.merge_laws.Goals as goal
 
 pub returns : goal.returns
 returns g c =
-    let same = g.T.PartialEq.eq in
+    let same = g.T.Order.same in
     let tells = g.met.T.Order.tells in
     record {
       merged = merge-member same tells;

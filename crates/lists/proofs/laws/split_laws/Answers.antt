@@ -3,6 +3,6 @@ use Rattle.lists.proofs.laws.split_laws.Goals as goal
 
 pub returns : goal.returns
 returns g c =
-    let same = g.T.PartialEq.eq in
+    let same = g.T.Order.same in
     let tells = g.met.T.Order.tells in
     record { unique = split_unique same tells; procedure = split_procedure same tells }

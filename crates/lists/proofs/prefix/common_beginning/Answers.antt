@@ -5,7 +5,7 @@ use Rattle.lists.proofs.prefix.common_beginning.Goals as goal
 
 pub returns : goal.returns
 returns g c =
-    let same = g.T.PartialEq.eq in
+    let same = g.T.Order.same in
     let a = c.args.a.now in
     let b = c.args.b.now in
     let is = ap (λ k. take k a) c.common_length.ensures.is ∙ common-take same a b in

@@ -6,7 +6,7 @@ use Rattle.lists.proofs.prefix.split.Goals as goal
 
 pub returns : goal.returns
 returns g c =
-    let same = g.T.PartialEq.eq in
+    let same = g.T.Order.same in
     let tells = g.met.T.Order.tells in
     let o = c.args.opened.now in
     let f = c.args.decided.now in

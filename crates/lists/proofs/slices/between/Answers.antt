@@ -3,20 +3,18 @@ use borrow.Author.Tests.{tests}
 use Rattle.std.proofs.lemmas.Iterator.{YieldsList-from_slice}
 use Rattle.std.proofs.lemmas.Iterator.Consumers.{YieldsList-at, YieldsList-from_filter, count_from_yields_List}
 use Rattle.std.proofs.lemmas.List.Sums.{length-filter}
-use Rattle.lists.specs.Orders.{before}
 use Rattle.lists.specs.Ranges.{in_range}
-use Rattle.lists.proofs.Orders.{ordered_by_cmp}
 use Rattle.lists.proofs.Ranges.{between_none}
 use Rattle.lists.proofs.slices.between.Goals as goal
 
 pub returns-clause-none : goal.returns-clause-none
 returns-clause-none g c crossed =
-    let eq = g.T.PartialEq.eq in
-    let cmp = g.T.Ord.cmp in
+    let same = g.T.Order.same in
+    let before = g.T.Order.before in
     let low = c.args.low.now in
     let high = c.args.high.now in
     let list = c.args.list.now in
-    let p = in_range (before cmp) low high in
+    let p = in_range before low high in
     count_from_yields_List c.filter.result _ c.count.ensures.ran (YieldsList-from_filter _ p (YieldsList-at c.filter.ensures.source (YieldsList-from_slice list (cc))) c.filter.ensures.closure (λ x r q k. search (rules, tests)))
     ∙ length-filter p list
-    ∙ between_none eq (before cmp) g.met.T.Order.tells (ordered_by_cmp eq cmp g.met.T.Ord.total g.met.T.Ord.matches_eq) low high crossed list
+    ∙ between_none same before g.met.T.Order.tells g.met.T.Order.ordered low high crossed list

@@ -4,7 +4,7 @@ use Rattle.lists.proofs.slices.is_distinct.Given as goal
 
 -- what is left has its elements once exactly where the whole list has
 abbrev pub invariant-loop-left : goal.invariant-loop-left
-invariant-loop-left g l = distinct g.T.PartialEq.eq l.left ≡ distinct g.T.PartialEq.eq l.list
+invariant-loop-left g l = distinct g.T.Order.same l.left ≡ distinct g.T.Order.same l.list
 
 abbrev pub decreases-loop-left : goal.decreases-loop-left
 decreases-loop-left g l = length l.left
