@@ -1,5 +1,6 @@
 // The order of elements.
 ghost use Rattle.std.specs.Prelude.{◌≡◌, Bool, ◌||◌, nat_eq, nat_lt};
+ghost use Rattle.lists.specs.Membership.{member};
 ghost use Rattle.lists.specs.Orders.{Tells, Ordered};
 ghost use Rattle.std.proofs.Common.{rules};
 
@@ -26,6 +27,13 @@ pub trait Order: Copy {
         self.is_before(other) || self.is_same(other)
     }
 
+    // Whether this one stands in the list. Provided; a type that the library finds faster has its own.
+    fn stands_in(&self, list: &[Self]) -> bool
+        ensures { result ≡ member same self.now list.now }
+    {
+        list.iter().any(|x| self.is_same(x))
+    }
+
     ghost tells: { Tells same };
 
     ghost ordered: { Ordered same before };
@@ -47,5 +55,9 @@ impl Order for u8 {
 
     fn is_before(&self, other: &u8) -> bool {
         *self < *other
+    }
+
+    fn stands_in(&self, list: &[u8]) -> bool {
+        list.contains(self)
     }
 }

@@ -16,7 +16,7 @@ use crate::seq::Seq;
 pub fn contains<T: Order>(list: &[T], x: &T) -> bool
     ensures { result ≡ member T.Order.same x.now list.now }
 {
-    list.iter().any(|y| x.is_same(y))
+    x.stands_in(list)
 }
 
 // The place where `x` first stands in the list.
