@@ -18,6 +18,14 @@ invariant_of-self g c =
       ];
     }
 
+pub returns-clause-rule : goal.returns-clause-rule
+returns-clause-rule g c =
+    let proposed = c.in_ok-poll.ensures.1 in
+    elim c.if-AT_ONCE.branch [
+      | then-AT_ONCE w ↦ rw (sym w.if-AT_ONCE.ensures) (ap standing_of w.self-is ∙ w.settle-self.ensures.settles ∙ ap (λ s. settling s c.args.epoch) proposed)
+      | else-AT_ONCE w ↦ rw (sym w.if-AT_ONCE.ensures) (ap standing_of w.self-is ∙ proposed)
+    ]
+
 pub returns-clause-does : goal.returns-clause-does
 returns-clause-does g c =
     let before = standing_of c.args.self.now.poll in
@@ -28,11 +36,3 @@ returns-clause-does g c =
         | else-AT_ONCE w ↦ proposed_only before c.args.epoch c.args.board _ (ap standing_of w.self-is ∙ proposed)
       ],
     )
-
-pub returns-clause-rule : goal.returns-clause-rule
-returns-clause-rule g c =
-    let proposed = c.in_ok-poll.ensures.1 in
-    elim c.if-AT_ONCE.branch [
-      | then-AT_ONCE w ↦ rw (sym w.if-AT_ONCE.ensures) (ap standing_of w.self-is ∙ w.settle-self.ensures.settles ∙ ap (λ s. settling s c.args.epoch) proposed)
-      | else-AT_ONCE w ↦ rw (sym w.if-AT_ONCE.ensures) (ap standing_of w.self-is ∙ proposed)
-    ]
