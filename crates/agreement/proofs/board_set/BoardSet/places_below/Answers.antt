@@ -16,9 +16,11 @@ sum-requires-clause-fits c =
     let long : length on ≡ 7 = search rules in
     let few : count_by (λ b. b) (take c.args.n on) < 2 ^ 64 = omega (arith, sum_by-take-le (λ b. cond b 1 0) on c.args.n, count_by-le-length (λ b. b) on) in
     let first = YieldsList-from_take c.args.n (YieldsList-at c.take.ensures.source (YieldsList-from_slice on cc)) c.take.ensures.count in
-    fits_by_from_yields_list _ _ c.map.result _ (YieldsList-from_map _ (λ b. cond b 1 0) (YieldsList-at c.map.ensures.source first) c.map.ensures.closure (λ x r q called. search (rules, worth))) few
+    fits_by_from_yields_list _ _ c.map.result _
+    (YieldsList-from_map _ (λ b. cond b 1 0) (YieldsList-at c.map.ensures.source first) c.map.ensures.closure (λ x r q called. search (rules, worth))) few
 
 pub returns : goal.returns
 returns c =
     let first = YieldsList-from_take c.args.n (YieldsList-at c.take.ensures.source (YieldsList-from_slice c.args.self.on cc)) c.take.ensures.count in
-    sum_by_from_yields_List _ _ c.map.result _ c.sum.ensures.ran (YieldsList-from_map _ (λ b. cond b 1 0) (YieldsList-at c.map.ensures.source first) c.map.ensures.closure (λ x r q called. search (rules, worth)))
+    sum_by_from_yields_List _ _ c.map.result _ c.sum.ensures.ran
+    (YieldsList-from_map _ (λ b. cond b 1 0) (YieldsList-at c.map.ensures.source first) c.map.ensures.closure (λ x r q called. search (rules, worth)))
