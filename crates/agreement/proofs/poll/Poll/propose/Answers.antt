@@ -16,7 +16,7 @@ use Rattle.agreement.proofs.poll.Poll.propose.Goals as goal
 abbrev ballot-of : Poll → ℕ → Ballot
 ballot-of s epoch = get_or s.ballots epoch (record { proposers = record { on = [] }; decided = None })
 
--- where the poll stands with a ballot in which the board has proposed, too; said of any code that makes one, and not of one step
+-- where the poll stands with any ballot in which the board has proposed, too
 stands : (s : Poll) (epoch board : ℕ) (b : Ballot) → length s.ballots ≡ 16 → epoch < 16 → board < s.count.n
     → boards_of b.proposers ≡ (if ltb board 7 then joined board (boards_of (ballot-of s epoch).proposers) else boards_of (ballot-of s epoch).proposers)
     → b.decided ≡ (ballot-of s epoch).decided
