@@ -1,5 +1,5 @@
 -- What the rule of deciding makes of decided sets.
-use Rattle.std.proofs.Common.{◌≡◌, ℕ, ◌≤◌, Bool, true, false, eqb, leb, is_some, cond, Some, None, Option, sym, refl, ap, ◌∙◌, subst, ⊎_elim, arith}
+use Rattle.std.proofs.Common.{◌≡◌, ℕ, ◌≤◌, Bool, true, false, eqb, leb, is_some, cond, if◌then◌else◌, Some, None, Option, sym, refl, ap, ◌∙◌, subst, ⊎_elim, arith}
 use mathlib.Core.Path.{fun_ext}
 use Rattle.std.proofs.lemmas.Bool.{cases_Bool, cond_both, cond-true, cond-false, eq-eqb, eqb-true, eqb-false, ne_eqb}
 use Rattle.agreement.specs.Agreements.{Sound, DecidesOnly, Cleared, Proposed, Learned}
@@ -114,6 +114,12 @@ proposed_settled s epoch board after is =
 pub proposed_only : (s : Standing) (epoch board : ℕ) (after : Standing) → after ≡ proposing s epoch board → Proposed s after epoch board
 proposed_only s epoch board after is =
     subst (λ a. Proposed s a epoch board) (sym is) (record { boards = refl; added = refl; decisions = record { elsewhere = λ e other. refl; stays = λ u h. h } })
+
+-- so it is by either rule
+pub proposed_either : (now : Bool) (s : Standing) (epoch board : ℕ) (after : Standing)
+    → after ≡ (if now then settling (proposing s epoch board) epoch else proposing s epoch board) → Proposed s after epoch board
+proposed_either true = proposed_settled
+proposed_either false = proposed_only
 
 -- what is settled and answered is as learn may leave it
 pub learned_settled : (s : Standing) (epoch : ℕ) (answer : ℕ → Bool) (after : Standing) → after ≡ settling s epoch → after.decided epoch ≡ Some answer → Learned s after epoch answer

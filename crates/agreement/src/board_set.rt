@@ -70,6 +70,6 @@ impl BoardSet {
     fn places_below(self, n: usize) -> usize
         ensures { result ≡ count_by (λ on. on) (take n self.on) }
     {
-        self.on.iter().take(n).filter(|on| **on).count()
+        self.on.iter().take(n).map(|on| usize::from(*on)).sum()
     }
 }

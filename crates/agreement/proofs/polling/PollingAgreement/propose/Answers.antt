@@ -2,7 +2,7 @@ use Rattle.std.proofs.Common.{sym, subst, ap, ◌∙◌, rules}
 use Rattle.agreement.specs.Agreements.{Sound}
 use Rattle.agreement.specs.Deciding.{settling, Prompt}
 use Rattle.agreement.specs.PollStandings.{standing_of}
-use Rattle.agreement.proofs.Settling.{prompt_proposed, proposed_settled, proposed_only}
+use Rattle.agreement.proofs.Settling.{prompt_proposed, proposed_either}
 use Rattle.agreement.proofs.polling.PollingAgreement.propose.Goals as goal
 use Rattle.agreement.proofs.polling.PollingAgreement.propose.Goals.{then-AT_ONCE, else-AT_ONCE}
 
@@ -18,17 +18,6 @@ invariant_of-self g c =
       ];
     }
 
-pub returns-clause-does : goal.returns-clause-does
-returns-clause-does g c =
-    let before = standing_of c.args.self.now.poll in
-    let proposed = c.in_ok-poll.ensures.1 in (
-      c.in_ok-poll.ensures.0,
-      elim c.if-AT_ONCE.branch [
-        | then-AT_ONCE w ↦ proposed_settled before c.args.epoch c.args.board _ (ap standing_of w.self-is ∙ w.settle-self.ensures.settles ∙ ap (λ s. settling s c.args.epoch) proposed)
-        | else-AT_ONCE w ↦ proposed_only before c.args.epoch c.args.board _ (ap standing_of w.self-is ∙ proposed)
-      ],
-    )
-
 pub returns-clause-rule : goal.returns-clause-rule
 returns-clause-rule g c =
     let proposed = c.in_ok-poll.ensures.1 in
@@ -36,3 +25,8 @@ returns-clause-rule g c =
       | then-AT_ONCE w ↦ rw (sym w.if-AT_ONCE.ensures) (ap standing_of w.self-is ∙ w.settle-self.ensures.settles ∙ ap (λ s. settling s c.args.epoch) proposed)
       | else-AT_ONCE w ↦ rw (sym w.if-AT_ONCE.ensures) (ap standing_of w.self-is ∙ proposed)
     ]
+
+-- the rule says more
+pub returns-clause-does : goal.returns-clause-does
+returns-clause-does g c =
+    (c.in_ok-poll.ensures.0, proposed_either _ (standing_of c.args.self.now.poll) c.args.epoch c.args.board _ (returns-clause-rule g c))
