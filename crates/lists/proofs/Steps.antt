@@ -1,7 +1,6 @@
 -- One turn of a loop over a list, which reads the element x at the place i.
-use Rattle.std.proofs.Common.{◌≡◌, ℕ, ◌+◌, ◌<◌, Bool, true, false, List, [], ◌∷◌, ◌++◌, length, get_or, take, drop, count_by, sym, ap, ◌∙◌, arith}
+use Rattle.std.proofs.Common.{◌≡◌, ℕ, ◌+◌, ◌<◌, Bool, true, false, List, [], ◌∷◌, ◌++◌, length, get_or, drop, sym, ap, ◌∙◌, arith}
 use Rattle.std.proofs.lemmas.List.{at_drop_more, length_push}
-use Rattle.std.proofs.lemmas.List.Sums.{count_by_more_yes, count_by_more_no}
 use Rattle.std.proofs.lemmas.Bool.{cond-true, cond-false}
 use Rattle.lists.specs.Membership.{member}
 use Rattle.lists.proofs.Merging.{adding, adding-length}
@@ -9,14 +8,6 @@ use Rattle.lists.proofs.Merging.{adding, adding-length}
 -- a function of what is left of the list
 pub left-more : {X Y : Type 0} (F : List X → Y) (xs : List X) (i : ℕ) (x : X) → i < length xs → x ≡ get_or xs i x → F (drop i xs) ≡ F (x ∷ drop (i + 1) xs)
 left-more F xs i x h e = at_drop_more F xs i x h ∙ ap (λ y. F (y ∷ drop (i + 1) xs)) (sym e)
-
-module _ {A : Type 0} (xs : List A) (i : ℕ) (x : A) (h : i < length xs) (e : x ≡ get_or xs i x) where
-  -- an element that passes a test counts, another does not
-  pub count_yes : (p : A → Bool) → p x ≡ true → count_by p (take (i + 1) xs) ≡ count_by p (take i xs) + 1
-  count_yes p t = count_by_more_yes p xs i x h (ap p (sym e) ∙ t)
-
-  pub count_no : (p : A → Bool) → p x ≡ false → count_by p (take (i + 1) xs) ≡ count_by p (take i xs)
-  count_no p t = count_by_more_no p xs i x h (ap p (sym e) ∙ t)
 
 module _ {A : Type 0} (same : A → A → Bool) (so xs : List A) (i : ℕ) (x : A) (h : i < length xs) (e : x ≡ get_or xs i x) where
   -- merging: a new element goes behind the others
